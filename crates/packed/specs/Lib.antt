@@ -1,0 +1,4 @@
+pub mod Nines
+pub mod Layout
+pub mod Words
+pub mod Packing
