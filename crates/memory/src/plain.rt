@@ -70,3 +70,25 @@ pub impl<'a> Core for PlainCore<'a> as PlainCoreCore {
         Ok(())
     }
 }
+
+#[cfg(test)]
+mod tests {
+    use super::*;
+    use std::test::*;
+    use words::RefusalDebug;
+    use words::RefusalPartialEq;
+
+    #[test]
+    fn a_word_is_the_low_36_bits() -> Result<(), Fail> {
+        let mut cells = [u64::MAX, 2, 3];
+        let mut core = PlainCore::new(&mut cells);
+        check_eq(core.len(), 3)?;
+        check_eq(core.read(0), Ok(WORD_LIMIT - 1))?;
+        check_eq(core.write(0, 5), Ok(()))?;
+        check_eq(core.write(2, WORD_LIMIT - 1), Ok(()))?;
+        check_eq(core.read(3), Err(Refusal::AddressOutsideCore))?;
+        check_eq(core.write(3, 0), Err(Refusal::AddressOutsideCore))?;
+        check_eq(core.write(3, WORD_LIMIT), Err(Refusal::NotAWord))?;
+        check_eq(cells, [5, 2, WORD_LIMIT - 1])
+    }
+}

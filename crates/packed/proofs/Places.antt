@@ -76,9 +76,10 @@ puts-more a b c d e f g h i bs again zero w m l =
     let t = even-kept w a b c d e m in
     ((cc), (cc))
 puts-more a b c d e f g h i bs again (suc k) w m l =
-    let less : k * 9 + 8 < length bs = omega arith in
-    (rw (two k, nine k 1, nine k 2, nine k 3, nine k 4, nine₀ k) (ap (λ (t : List ℕ). even a b c d e ∷ odd e f g h i ∷ t) (again k w m less .0)),
-     rw (two₁ k, nine k 4, nine k 5, nine k 6, nine k 7, nine k 8) (ap (λ (t : List ℕ). even a b c d e ∷ odd e f g h i ∷ t) (again k w m less .1)))
+    let less : k * 9 + 8 < length bs = omega arith in (
+      rw (two k, nine k 1, nine k 2, nine k 3, nine k 4, nine₀ k) (ap (λ (t : List ℕ). even a b c d e ∷ odd e f g h i ∷ t) (again k w m less .0)),
+      rw (two₁ k, nine k 4, nine k 5, nine k 6, nine k 7, nine k 8) (ap (λ (t : List ℕ). even a b c d e ∷ odd e f g h i ∷ t) (again k w m less .1)),
+    )
 
 puts-pair : (bs : List ℕ) → PutsPair bs
 puts-pair = by-nines PutsPair (λ bs short k w m l. absurd (omega arith)) puts-more
@@ -97,11 +98,11 @@ module _ (bs : List ℕ) (a : ℕ) (in′ : a < 2 * (length bs / 9)) where
   unpack-putWord w m =
       ⊎-elim
       (λ (z : a % 2 ≡ 0).
-          let e : a / 2 * 2 ≡ a = omega arith in
-          ap unpack (cond-true (eqb (a % 2) 0) _ _ (eq-eqb (a % 2) 0 z)) ∙ puts-pair bs (a / 2) w m (omega arith) .0 ∙ ap (λ n. set (unpack bs) n w) e)
+      let e : a / 2 * 2 ≡ a = omega arith in
+      ap unpack (cond-true (eqb (a % 2) 0) _ _ (eq-eqb (a % 2) 0 z)) ∙ puts-pair bs (a / 2) w m (omega arith) .0 ∙ ap (λ n. set (unpack bs) n w) e)
       (λ (z : a % 2 ≡ 0 → ⊥).
-          let e : a / 2 * 2 + 1 ≡ a = omega arith in
-          ap unpack (cond-false (eqb (a % 2) 0) _ _ (ne-eqb (a % 2) 0 z)) ∙ puts-pair bs (a / 2) w m (omega arith) .1 ∙ ap (λ n. set (unpack bs) n w) e)
+      let e : a / 2 * 2 + 1 ≡ a = omega arith in
+      ap unpack (cond-false (eqb (a % 2) 0) _ _ (ne-eqb (a % 2) 0 z)) ∙ puts-pair bs (a / 2) w m (omega arith) .1 ∙ ap (λ n. set (unpack bs) n w) e)
       (cases-eq (a % 2) 0)
 
 -- neither the length nor a byte past the pair's nine changes

@@ -32,9 +32,21 @@ pub(crate) fn get_word(bytes: &[u8], a: u64) -> u64
 {
     let p = (a / 2 * 9) as usize;
     if a % 2 == 0 {
-        even_word(bytes[p], bytes[p + 1], bytes[p + 2], bytes[p + 3], bytes[p + 4])
+        even_word(
+            bytes[p],
+            bytes[p + 1],
+            bytes[p + 2],
+            bytes[p + 3],
+            bytes[p + 4],
+        )
     } else {
-        odd_word(bytes[p + 4], bytes[p + 5], bytes[p + 6], bytes[p + 7], bytes[p + 8])
+        odd_word(
+            bytes[p + 4],
+            bytes[p + 5],
+            bytes[p + 6],
+            bytes[p + 7],
+            bytes[p + 8],
+        )
     }
 }
 

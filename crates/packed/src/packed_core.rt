@@ -73,3 +73,26 @@ pub impl<'a> Core for PackedCore<'a> as PackedCoreCore {
         Ok(())
     }
 }
+
+#[cfg(test)]
+mod tests {
+    use super::*;
+    use std::test::*;
+    use words::RefusalDebug;
+    use words::RefusalPartialEq;
+
+    #[test]
+    fn the_shared_byte_keeps_the_other_half() -> Result<(), Fail> {
+        let mut bytes = [0, 0, 0, 0, 0x3c, 0, 0, 0, 5, 0xee];
+        let mut core = PackedCore::new(&mut bytes);
+        check_eq(core.len(), 2)?;
+        check_eq(core.read(0), Ok(3))?;
+        check_eq(core.write(0, 0x9_0000_0007), Ok(()))?;
+        check_eq(core.write(1, 0xa_bcde_f012), Ok(()))?;
+        check_eq(core.read(0), Ok(0x9_0000_0007))?;
+        check_eq(core.read(2), Err(Refusal::AddressOutsideCore))?;
+        check_eq(core.write(2, 0), Err(Refusal::AddressOutsideCore))?;
+        check_eq(core.write(2, WORD_LIMIT), Err(Refusal::NotAWord))?;
+        check_eq(bytes, [0x90, 0, 0, 0, 0x7a, 0xbc, 0xde, 0xf0, 0x12, 0xee])
+    }
+}

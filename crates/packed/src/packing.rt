@@ -90,3 +90,41 @@ pub fn unpack(bytes: &[u8], words: &mut [u64]) -> Result<(), PackingError>
     }
     Ok(())
 }
+
+#[cfg(test)]
+mod tests {
+    use super::*;
+    use std::test::*;
+
+    #[test]
+    fn no_bits_and_all_bits() -> Result<(), Fail> {
+        let mut bytes = [0x55; 9];
+        check_eq(pack(&[0, 0o777777_777777], &mut bytes), Ok(()))?;
+        check_eq(bytes, [0, 0, 0, 0, 0x0f, 0xff, 0xff, 0xff, 0xff])?;
+        let mut words = [0; 2];
+        check_eq(unpack(&bytes, &mut words), Ok(()))?;
+        check_eq(words, [0, 0o777777_777777])
+    }
+
+    #[test]
+    fn refused_before_anything_is_written() -> Result<(), Fail> {
+        let mut bytes = [0x55; 9];
+        check_eq(pack(&[1], &mut bytes), Err(PackingError::NotWholePairs))?;
+        check_eq(
+            pack(&[1, 2, 3, 4], &mut bytes),
+            Err(PackingError::WrongLength),
+        )?;
+        check_eq(
+            pack(&[1, WORD_LIMIT], &mut bytes),
+            Err(PackingError::NotAWord),
+        )?;
+        check_eq(bytes, [0x55; 9])?;
+        let mut words = [7; 2];
+        check_eq(
+            unpack(&[0; 8], &mut words),
+            Err(PackingError::NotWholeNines),
+        )?;
+        check_eq(unpack(&[0; 18], &mut words), Err(PackingError::WrongLength))?;
+        check_eq(words, [7; 2])
+    }
+}

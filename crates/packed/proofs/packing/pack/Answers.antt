@@ -33,6 +33,7 @@ returns c =
     let even = c .if-words-ne0 .left in
     let long : length bs ≡ length ws / 2 * 9 = omega arith in
     let all = nines-all (c .loop-i .i) ws bs (c .loop-i .bytes) (omega arith) (omega arith) (c .loop-i .inv) in
-    record
-    { packs = (even, long, narrow, all)
-    ; unpacks-to-the-same = ap unpack all ∙ unpack-pack ws narrow even }
+    record {
+      packs = (even, long, narrow, all);
+      unpacks-to-the-same = ap unpack all ∙ unpack-pack ws narrow even;
+    }

@@ -11,6 +11,7 @@ returns c =
     let bs = c .args .bytes .now in
     let all : c .loop-k .words ≡ unpack bs = ext-getD 0 (c .loop-k .words) (unpack bs) (omega (arith, length-unpack bs)) (λ j l. c .loop-k .inv j (omega arith)) in
     let whole = c .if-bytes-ne0 .left in
-    record
-    { unpacks = (whole, c .if-words-bytes .left, all)
-    ; packs-to-the-same = ap pack all ∙ pack-unpack bs (λ i. c .typed .bytes i .fits) whole }
+    record {
+      unpacks = (whole, c .if-words-bytes .left, all);
+      packs-to-the-same = ap pack all ∙ pack-unpack bs (λ i. c .typed .bytes i .fits) whole;
+    }
