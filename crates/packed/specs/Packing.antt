@@ -1,29 +1,26 @@
 -- What the packing calls do with the lists that are lent to them.
-use Prim.Native.Nat.{ℕ, _*_, _/_, _%_, _^_, _<_, _≤_}
+use Prim.Native.Nat.{ℕ, _*_, _/_, _%_}
 use Rattle.packed.specs.Layout.{pack, unpack}
 use Rattle.packed.specs.declared.packing.PackingError.{PackingError}
 use Rattle.packed.specs.declared.packing.PackingError.the-variants.{NotWholePairs, NotWholeNines, WrongLength, NotAWord}
 use Rattle.std.specs.declared.result.Result.{Result}
 use Rattle.std.specs.declared.result.Result.the-variants.{Ok, Err}
-use Rattle.words.specs.Word.{Narrow}
-use lib.ListN.{length, getD}
+use Rattle.words.specs.Word.{areWords}
+use lib.ListN.{length}
+use mathlib.Core.Bool.{true, false}
 use mathlib.Core.List.{List}
 use mathlib.Core.Path.{_≡_}
-
--- some number of the list is no word
-abbrev pub Wide : List ℕ → Type 0
-Wide ws = (k : ℕ) × (k < length ws) × (2 ^ 36 ≤ getD ws k 0)
 
 -- why words are not packed into n bytes: the first of these
 abbrev pub PackRefused : List ℕ → ℕ → PackingError → Type 0
 PackRefused ws n NotWholePairs = length ws % 2 ≡ 0 → ⊥
 PackRefused ws n WrongLength = (length ws % 2 ≡ 0) × (n ≡ length ws / 2 * 9 → ⊥)
-PackRefused ws n NotAWord = (length ws % 2 ≡ 0) × (n ≡ length ws / 2 * 9) × Wide ws
+PackRefused ws n NotAWord = (length ws % 2 ≡ 0) × (n ≡ length ws / 2 * 9) × (areWords ws ≡ false)
 PackRefused ws n NotWholeNines = ⊥
 
 -- packing words into a buffer that holds before and then after
 abbrev pub Packs : List ℕ → List ℕ → List ℕ → Result (Unit {0}) PackingError → Type 0
-Packs ws before after (Ok u) = (length ws % 2 ≡ 0) × (length before ≡ length ws / 2 * 9) × Narrow ws × (after ≡ pack ws)
+Packs ws before after (Ok u) = (length ws % 2 ≡ 0) × (length before ≡ length ws / 2 * 9) × (areWords ws ≡ true) × (after ≡ pack ws)
 Packs ws before after (Err e) = PackRefused ws (length before) e × (after ≡ before)
 
 -- why bytes are not unpacked into n words: the first of these

@@ -1,13 +1,11 @@
 ghost use Prim.Native.Nat.{_<_, _^_};
 ghost use Rattle.packed.specs.Layout.{pack as packed, unpack as unpacked};
-ghost use Rattle.packed.specs.Packing.{Packs, Unpacks, Wide};
-ghost use Rattle.std.specs.Orderings.{When};
+ghost use Rattle.packed.specs.Packing.{Packs, Unpacks};
 ghost use Rattle.std.specs.Vec.{made};
-ghost use Rattle.words.specs.Word.{Narrow};
 ghost use mathlib.Core.List.{[], _∷_};
 ghost use mathlib.Core.Path.{_≡_};
 use crate::layout::get_word;
-use words::WORD_LIMIT;
+use words::all_words;
 
 /// Why nothing was packed or unpacked. Where several hold, the first of them is given.
 #[derive(Clone, Copy, PartialEq, Eq, Debug)]
@@ -20,18 +18,6 @@ pub enum PackingError {
     WrongLength,
     /// A number is not below 2^36.
     NotAWord,
-}
-
-/// Whether each of these numbers is a word.
-fn all_words(words: &[u64]) -> bool
-    ensures { λ r. ⌜ When r (Narrow (now (words .entry))) (Wide (now (words .entry))) ⌝ }
-{
-    for w in words {
-        if *w >= WORD_LIMIT {
-            return false;
-        }
-    }
-    true
 }
 
 /// The nine bytes of a pair.
@@ -95,6 +81,7 @@ pub fn unpack(bytes: &[u8], words: &mut [u64]) -> Result<(), PackingError>
 mod tests {
     use super::*;
     use std::test::*;
+    use words::WORD_LIMIT;
 
     #[test]
     fn no_bits_and_all_bits() -> Result<(), Fail> {

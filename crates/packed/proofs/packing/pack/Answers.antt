@@ -4,7 +4,8 @@ use Rattle.packed.proofs.RoundTrips.{unpack-pack}
 use Rattle.packed.proofs.packing.pack.Needs as need
 use Rattle.packed.specs.Layout.{pack, unpack}
 use lib.ListN.{length, drop}
-use mathlib.Core.Path.{_≡_, refl, ap, _∙_}
+use Rattle.words.specs.Word.{narrow-words}
+use mathlib.Core.Path.{_≡_, refl, sym, ap, _∙_}
 use native.Mathlib.Omega.{arith}
 
 pub loop-i-holds : need.loop-i-holds
@@ -16,6 +17,11 @@ index-words-i c = omega arith
 
 pub index-words-i-in-loop-i : need.index-words-i-in-loop-i
 index-words-i-in-loop-i c = omega arith
+
+pub pair-bytes-nine-requires : need.pair-bytes-nine-requires
+pair-bytes-nine-requires c κs =
+    let narrow = narrow-words (c .args .words .now) (sym (c .all-words .ensures) ∙ c .if-not-all-words .left) in
+    (narrow (2 * c .loop-i .i), narrow (2 * c .loop-i .i + 1))
 
 pub loop-i-again : need.loop-i-again
 loop-i-again c =
@@ -29,11 +35,11 @@ pub returns : need.returns
 returns c =
     let ws = c .args .words .now in
     let bs = c .args .bytes .now in
-    let narrow = c .if-not-all-words .ensures tt in
+    let words = sym (c .all-words .ensures) ∙ c .if-not-all-words .left in
     let even = c .if-words-ne0 .left in
     let long : length bs ≡ length ws / 2 * 9 = omega arith in
     let all = nines-all (c .loop-i .i) ws bs (c .loop-i .bytes) (omega arith) (omega arith) (c .loop-i .inv) in
     record {
-      packs = (even, long, narrow, all);
-      unpacks-to-the-same = ap unpack all ∙ unpack-pack ws narrow even;
+      packs = (even, long, words, all);
+      unpacks-to-the-same = ap unpack all ∙ unpack-pack ws (narrow-words ws words) even;
     }
