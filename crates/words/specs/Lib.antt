@@ -1,2 +1,4 @@
+pub mod Bits
 pub mod Refusals
+pub mod Signed
 pub mod Word

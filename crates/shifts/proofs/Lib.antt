@@ -1,0 +1,10 @@
+mod Beside
+mod Directions
+mod Examples
+mod PairScaling
+mod Pairing
+mod Powers
+mod Scaling
+mod Shifting
+mod Turning
+mod Zeros
