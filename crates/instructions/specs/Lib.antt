@@ -1,0 +1,17 @@
+pub mod Booleans
+pub mod Calls
+pub mod Compares
+pub mod Division
+pub mod Effects
+pub mod HalfWords
+pub mod Jumps
+pub mod Moves
+pub mod Narrow
+pub mod Operands
+pub mod Pointers
+pub mod Pushdown
+pub mod Results
+pub mod Shifts
+pub mod Subroutines
+pub mod Sums
+pub mod Tests
