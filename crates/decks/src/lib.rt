@@ -1,5 +1,6 @@
 //! Decks: suppliers' programs as text, octal words by address, and how they are put into a core.
 
+mod beginning;
 mod blocks;
 mod fault;
 mod octal;
@@ -10,6 +11,7 @@ mod storing;
 #[cfg(test)]
 mod tests;
 
+pub use beginning::accumulators;
 pub use blocks::blocks_for;
 pub use fault::DeckError;
 pub use fault::DeckErrorDebug;

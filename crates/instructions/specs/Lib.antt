@@ -15,3 +15,4 @@ pub mod Shifts
 pub mod Subroutines
 pub mod Sums
 pub mod Tests
+pub mod PushdownLaw

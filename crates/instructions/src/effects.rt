@@ -3,6 +3,7 @@
 ghost use Prim.Native.Nat.{_^_, _<_};
 ghost use Rattle.instructions.specs.Effects.{effectOf};
 ghost use Rattle.instructions.specs.Narrow.{NarrowEffect};
+ghost use Rattle.instructions.specs.PushdownLaw.{PushThenPop};
 ghost use mathlib.Core.Path.{_≡_};
 use crate::bit_tests::test_effect;
 use crate::booleans::boolean_effect;
@@ -47,6 +48,7 @@ use operations::Status;
 pub fn effect_of(op: Operation, given: Inputs, status: Status) -> Effect
     ensures value { λ r. ⌜ r ≡ effectOf op given status ⌝ }
     ensures narrow { λ r. ⌜ (given .ac < 2 ^ 36 → given .next < 2 ^ 36 → given .operand < 2 ^ 36 → given .e < 2 ^ 18 → NarrowEffect r) ⌝ }
+    ensures push_then_pop { λ _. ⌜ PushThenPop ⌝ }
 {
     match op {
         Operation::MonitorCall => monitor_call(given, status),
