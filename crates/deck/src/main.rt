@@ -1,5 +1,8 @@
 // Carries a supplier's deck through a packed core: reads it from standard input, stores it from address 0 on,
 // reads it back, runs it in a place of its own, and says what it did.
+
+#![tactic(auto)]
+
 use anyhow::anyhow;
 use decks::{accumulators, blocks_for, count_equal, read_deck, store};
 use machine::{Place, Space, run};

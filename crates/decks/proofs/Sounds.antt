@@ -42,7 +42,7 @@ module _ (line : ℕ) (ws : List ℕ) (words : are_words ws ≡ true) where
 
   kept_in : (m : Mode) (g : Sign) → SmallDigit g → SoundIn m (length ws) → IfOk (step_in m g (record { line = line; words = ws; mode = m })) (Kept line)
   kept_in Between (Digit d) small few =
-      cond_both (ltb (length ws) 262144) _ _ (λ r. IfOk {Y = DeckFault} r (Kept line))
+      cond_both (ltb (length ws) 262144) _ _ (λ r. IfOk {E = DeckFault} r (Kept line))
       (λ e. ((words, (ltb-true (length ws) 262144 e, omega arith, omega arith)), omega arith))
       (λ _. tt)
   kept_in Between Blank small few = ((words, few), omega arith)
@@ -50,7 +50,7 @@ module _ (line : ℕ) (ws : List ℕ) (words : are_words ws ≡ true) where
   kept_in Between Hash small few = ((words, few), omega arith)
   kept_in Between Other small few = tt
   kept_in (Number v n) (Digit d) small (few, l, le) =
-      cond_both (ltb n 12) _ _ (λ r. IfOk {Y = DeckFault} r (Kept line))
+      cond_both (ltb n 12) _ _ (λ r. IfOk {E = DeckFault} r (Kept line))
       (λ e. let more = ltb-true n 12 e in ((words, (few, octal-grows v n d l small, omega arith)), omega arith))
       (λ _. tt)
   kept_in (Number v n) Blank small num = (complete Between v n num (λ _ h. h), omega arith)

@@ -1,5 +1,7 @@
 //! Decks: suppliers' programs as text, octal words by address, and how they are put into a core.
 
+#![tactic(auto)]
+
 mod beginning;
 mod blocks;
 mod fault;

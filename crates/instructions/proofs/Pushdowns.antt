@@ -1,5 +1,5 @@
 -- PUSH and then POP.
-use Rattle.std.proofs.Common.{◌≡◌, ℕ, ◌+◌, ◌-◌, ◌%◌, ◌^◌, ◌<◌, Some, sym, ap, ◌∙◌, arith}
+use Rattle.std.proofs.Common.{◌≡◌, ℕ, ◌%◌, ◌^◌, ◌<◌, Some, sym, ap, ◌∙◌, arith}
 use Rattle.instructions.specs.Effects.{effect_of}
 use Rattle.instructions.specs.Operands.{operand_at}
 use Rattle.instructions.specs.Pointers.{pointer_up, pointer_down}

@@ -1,5 +1,7 @@
 //! What every ordinary instruction of the KA10 does, as a function of what it is given.
 
+#![tactic(auto)]
+
 mod bit_tests;
 mod booleans;
 mod calls;

@@ -1,5 +1,5 @@
 -- The bytes of a block, and the words that they hold.
-use Rattle.std.proofs.Common.{◌≡◌, ℕ, zero, suc, ◌*◌, ◌<◌, ◌≤◌, List, [], ◌∷◌, length, get_or, take, drop, sym, refl, ap, ◌∙◌, ⊎_elim, arith}
+use Rattle.std.proofs.Common.{◌≡◌, ℕ, zero, suc, ◌*◌, ◌<◌, ◌≤◌, List, [], ◌∷◌, length, take, drop, sym, refl, ap, ◌∙◌, ⊎_elim, arith}
 use Rattle.memory.specs.Cut.{cut}
 use Rattle.packed.proofs.RoundTrips.{Octets, pack-unpack}
 use Rattle.packed.specs.Layout.{even, odd, pack, unpack}

@@ -74,8 +74,8 @@ block-fits words base blocks l = omega arith
 pub record Fit (words base blocks steps : ℕ) (bytes : List ℕ) (n : ℕ) (p : Record) : Type 0 where
   pub some : 1 ≤ blocks
   pub inside : 1024 * (base + blocks) ≤ words
-  pub record-length : length bytes ≡ 160
-  pub reply-length : n ≡ 24
+  pub record_length : length bytes ≡ 160
+  pub reply_length : n ≡ 24
   pub good : good_record p ≡ true
   pub few : steps ≤ 1000000
 
@@ -94,8 +94,8 @@ fit words base blocks steps bytes n p h =
     record {
       some = leb-true _ _ place.0;
       inside = block-fits words base blocks (leb-true _ _ place.1);
-      record-length = eqb-true _ _ lengths.0;
-      reply-length = eqb-true _ _ lengths.1;
+      record_length = eqb-true _ _ lengths.0;
+      reply_length = eqb-true _ _ lengths.1;
       good = ap good_record same ∙ d.0;
       few = leb-true _ _ (and_parts _ _ e.0).1;
     }

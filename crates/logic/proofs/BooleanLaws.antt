@@ -45,10 +45,10 @@ module _ (m a : ℕ) where
       (row 15 (λ _ _. 1) (other none) refl refl refl refl)
 
   -- what is owed of the function in the row t
-  pub met : {r : ℕ} (table t : ℕ) → table % 16 ≡ t → r ≡ get_or (sixteen m a) t 0 → record { value : r ≡ boolean_of table m a; narrow : r < 2 ^ 36; by-table : ByTable table m a r }
+  pub met : {r : ℕ} (table t : ℕ) → table % 16 ≡ t → r ≡ get_or (sixteen m a) t 0 → record { value : r ≡ boolean_of table m a; narrow : r < 2 ^ 36; by_table : ByTable table m a r }
   unfolding boolean_of
   met {r} table t e h =
       let v : r ≡ boolean_of table m a = h ∙ ap (λ n. get_or (sixteen m a) n 0) (sym e) in
       let l : table % 16 < 16 = omega arith in
       let w : Row (table % 16) r = subst (Row (table % 16)) (sym v) (rows (table % 16) l) in
-      record { value = v; narrow = w.narrow; by-table = w.bits }
+      record { value = v; narrow = w.narrow; by_table = w.bits }

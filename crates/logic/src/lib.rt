@@ -2,6 +2,8 @@
 //!
 //! Every function takes any `u64` and works on its low 36 bits; every word that it gives is below 2^36.
 
+#![tactic(auto)]
+
 mod booleans;
 mod half_words;
 mod halves;

@@ -1,5 +1,5 @@
 -- XCT does what the word at its address does.
-use Rattle.std.proofs.Common.{◌≡◌, ℕ, zero, suc, ◌+◌, ◌/◌, ◌%◌, ◌^◌, List, get_or, None, Ok, Err, Option, Result, sym, refl, ap, ◌∙◌}
+use Rattle.std.proofs.Common.{◌≡◌, ℕ, zero, suc, ◌+◌, ◌/◌, ◌%◌, ◌^◌, List, get_or, None, Ok, Err, Option, Result, refl, ap, ◌∙◌}
 use Rattle.operations.specs.Fields.{accumulator}
 use Rattle.logic.specs.Halves.{right}
 use Rattle.instructions.specs.Effects.{effect_of}

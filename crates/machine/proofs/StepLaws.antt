@@ -1,9 +1,8 @@
 -- A step by its ways out, and a run step by step.
 use Rattle.std.proofs.Common.{◌≡◌, ℕ, zero, suc, ◌+◌, ◌-◌, ◌%◌, ◌^◌, ◌<◌, ◌≤◌, Bool, true, false, cond, List, Some, None, Ok, Err, Option, sym, refl, ap, ◌∙◌, add-zero, add_assoc, zero-add, arith}
 use Rattle.operations.specs.declared.effect.Status.{Status}
-use Rattle.machine.specs.Endings.{ended}
 use Rattle.machine.specs.Execution.{executed}
-use Rattle.machine.specs.Steps.{Machine, machine, Stepped, stepped, settled, advanced, step_of, Ran, went, later, counted, goes_on, run_of, and_on, RunSplits}
+use Rattle.machine.specs.Steps.{Machine, machine, Stepped, stepped, settled, step_of, Ran, went, later, counted, goes_on, run_of, and_on, RunSplits}
 use Rattle.machine.specs.User.{fetched}
 use Rattle.stops.specs.declared.stop.Stop.{Stop}
 use mir.Val.{bool_byte}

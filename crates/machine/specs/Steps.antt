@@ -1,5 +1,5 @@
 -- A step, and a run of steps.
-use Rattle.std.specs.Prelude.{◌≡◌, ℕ, zero, suc, ◌+◌, ◌%◌, ◌^◌, Bool, cond, List, Some, None, Ok, Err, Option, Result}
+use Rattle.std.specs.Prelude.{◌≡◌, ℕ, zero, suc, ◌+◌, ◌%◌, ◌^◌, cond, List, Some, None, Ok, Err, Option, Result}
 use Rattle.operations.specs.declared.effect.Status.{Status}
 use Rattle.machine.specs.Endings.{Ended}
 use Rattle.machine.specs.Execution.{executed}

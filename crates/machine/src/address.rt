@@ -49,7 +49,7 @@ pub(crate) fn effective_address<C: Core>(
     space: &Space,
     word: u64,
 ) -> Result<Located, Stop>
-    ensures value { result ≡ effective 64 None (user space.now (words core.now)) word }
+    ensures value { result ≡ effective 64 None (user space.now (C.words core.now)) word }
     ensures narrow { IfOk result (λ l. l.address < 2 ^ 18) }
 {
     let mut budget = ADDRESS_WORDS;

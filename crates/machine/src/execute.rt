@@ -26,9 +26,9 @@ fn carry_out<C: Core>(
     at: Located,
 ) -> Result<Next, Stop>
     requires { at.address < 2 ^ 18 }
-    ensures does { ended (user space.new (words core.new)) status.new result ≡ carried_out (decoded word) (user space.old (words core.old)) status.old word at }
-    ensures kept { Kept space.old (words core.old) space.new (words core.new) }
-    ensures rest { rest core.new ≡ rest core.old }
+    ensures does { ended (user space.new (C.words core.new)) status.new result ≡ carried_out (decoded word) (user space.old (C.words core.old)) status.old word at }
+    ensures kept { Kept space.old (C.words core.old) space.new (C.words core.new) }
+    ensures rest { C.rest core.new ≡ C.rest core.old }
 {
     match decode(word) {
         Instruction::UserCall => user_call(core, space, word, at),
@@ -45,9 +45,9 @@ fn one_word<C: Core>(
     status: &mut Status,
     word: u64,
 ) -> Result<Next, Stop>
-    ensures does { ended (user space.new (words core.new)) status.new result ≡ one_word (user space.old (words core.old)) status.old word }
-    ensures kept { Kept space.old (words core.old) space.new (words core.new) }
-    ensures rest { rest core.new ≡ rest core.old }
+    ensures does { ended (user space.new (C.words core.new)) status.new result ≡ one_word (user space.old (C.words core.old)) status.old word }
+    ensures kept { Kept space.old (C.words core.old) space.new (C.words core.new) }
+    ensures rest { C.rest core.new ≡ C.rest core.old }
 {
     let at = effective_address(core, space, word)?;
     carry_out(core, space, status, word, at)
@@ -60,9 +60,9 @@ pub(crate) fn execute<C: Core>(
     status: &mut Status,
     first: u64,
 ) -> Result<Option<Stop>, Stop>
-    ensures does { ended (user space.new (words core.new)) status.new result ≡ executed 63 (user space.old (words core.old)) status.old first }
-    ensures kept { Kept space.old (words core.old) space.new (words core.new) }
-    ensures rest { rest core.new ≡ rest core.old }
+    ensures does { ended (user space.new (C.words core.new)) status.new result ≡ executed 63 (user space.old (C.words core.old)) status.old first }
+    ensures kept { Kept space.old (C.words core.old) space.new (C.words core.new) }
+    ensures rest { C.rest core.new ≡ C.rest core.old }
 {
     let mut budget = FURTHER_WORDS;
     let mut word = first;

@@ -1,5 +1,7 @@
 //! The machine of one program: references, effective addresses, executed words, steps and runs, over any core.
 
+#![tactic(auto)]
+
 mod address;
 mod execute;
 mod next;

@@ -16,7 +16,7 @@ use stops::Stop;
 
 /// The operand, read if there is one to read.
 fn operand<C: Core>(core: &C, space: &Space, from: Option<u64>) -> Result<u64, Stop>
-    ensures value { result ≡ operand_from from (user space.now (words core.now)) }
+    ensures value { result ≡ operand_from from (user space.now (C.words core.now)) }
     ensures narrow { IfOk result (λ w. w < 2 ^ 36) }
 {
     match from {
@@ -40,10 +40,10 @@ fn put(space: &mut Space, k: u64, w: Option<u64>)
 /// Stores a word in memory, if there is one to store.
 fn store<C: Core>(core: &mut C, space: &mut Space, what: Option<(u64, u64)>) -> Result<(), Stop>
     requires { IfSome what (λ s. s.1 < 2 ^ 36) }
-    ensures answer { result ≡ storable (user space.old (words core.old)) what }
-    ensures after { user space.new (words core.new) ≡ storing (user space.old (words core.old)) what }
-    ensures kept { Kept space.old (words core.old) space.new (words core.new) }
-    ensures rest { rest core.new ≡ rest core.old }
+    ensures answer { result ≡ storable (user space.old (C.words core.old)) what }
+    ensures after { user space.new (C.words core.new) ≡ storing (user space.old (C.words core.old)) what }
+    ensures kept { Kept space.old (C.words core.old) space.new (C.words core.new) }
+    ensures rest { C.rest core.new ≡ C.rest core.old }
 {
     match what {
         Some((at, w)) => write(core, space, at, w),
@@ -60,9 +60,9 @@ fn apply<C: Core>(
     f: Effect,
 ) -> Result<Next, Stop>
     requires { (a < 16) × (NarrowEffect f) }
-    ensures does { ended (user space.new (words core.new)) status.new result ≡ applied (user space.old (words core.old)) status.old a f }
-    ensures kept { Kept space.old (words core.old) space.new (words core.new) }
-    ensures rest { rest core.new ≡ rest core.old }
+    ensures does { ended (user space.new (C.words core.new)) status.new result ≡ applied (user space.old (C.words core.old)) status.old a f }
+    ensures kept { Kept space.old (C.words core.old) space.new (C.words core.new) }
+    ensures rest { C.rest core.new ≡ C.rest core.old }
 {
     store(core, space, f.store)?;
     put(space, a, f.a);
@@ -81,9 +81,9 @@ pub(crate) fn perform<C: Core>(
     at: Located,
 ) -> Result<Next, Stop>
     requires { at.address < 2 ^ 18 }
-    ensures does { ended (user space.new (words core.new)) status.new result ≡ performed op (user space.old (words core.old)) status.old word at }
-    ensures kept { Kept space.old (words core.old) space.new (words core.new) }
-    ensures rest { rest core.new ≡ rest core.old }
+    ensures does { ended (user space.new (C.words core.new)) status.new result ≡ performed op (user space.old (C.words core.old)) status.old word at }
+    ensures kept { Kept space.old (C.words core.old) space.new (C.words core.new) }
+    ensures rest { C.rest core.new ≡ C.rest core.old }
 {
     let field = accumulator(word);
     let ac = space.accumulators[field as usize];

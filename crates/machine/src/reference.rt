@@ -10,7 +10,7 @@ const BLOCK: u64 = 1024;
 
 /// The word at user address `a`.
 pub(crate) fn read<C: Core>(core: &C, space: &Space, a: u64) -> Result<u64, Stop>
-    ensures value { result ≡ fetched (user space.now (words core.now)) a }
+    ensures value { result ≡ fetched (user space.now (C.words core.now)) a }
     ensures narrow { IfOk result (λ w. w < 2 ^ 36) }
 {
     if a < 16 {
@@ -28,10 +28,10 @@ pub(crate) fn read<C: Core>(core: &C, space: &Space, a: u64) -> Result<u64, Stop
 /// Puts the word `w` at user address `a`.
 pub(crate) fn write<C: Core>(core: &mut C, space: &mut Space, a: u64, w: u64) -> Result<(), Stop>
     requires { w < 2 ^ 36 }
-    ensures answer { result ≡ stored (user space.old (words core.old)) a }
-    ensures after { user space.new (words core.new) ≡ slice_set (user space.old (words core.old)) a w }
-    ensures kept { Kept space.old (words core.old) space.new (words core.new) }
-    ensures rest { rest core.new ≡ rest core.old }
+    ensures answer { result ≡ stored (user space.old (C.words core.old)) a }
+    ensures after { user space.new (C.words core.new) ≡ slice_set (user space.old (C.words core.old)) a w }
+    ensures kept { Kept space.old (C.words core.old) space.new (C.words core.new) }
+    ensures rest { C.rest core.new ≡ C.rest core.old }
 {
     if a < 16 {
         space.accumulators[a as usize] = w;

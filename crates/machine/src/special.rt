@@ -44,9 +44,9 @@ pub(crate) fn user_call<C: Core>(
     word: u64,
     at: Located,
 ) -> Result<Next, Stop>
-    ensures does { (s : Status) → ended (user space.new (words core.new)) s result ≡ carried_out UserCall (user space.old (words core.old)) s word at }
-    ensures kept { Kept space.old (words core.old) space.new (words core.new) }
-    ensures rest { rest core.new ≡ rest core.old }
+    ensures does { (s : Status) → ended (user space.new (C.words core.new)) s result ≡ carried_out UserCall (user space.old (C.words core.old)) s word at }
+    ensures kept { Kept space.old (C.words core.old) space.new (C.words core.new) }
+    ensures rest { C.rest core.new ≡ C.rest core.old }
 {
     write(core, space, CALL_AT, call_word(word, at.address))?;
     Ok(Next::At(CALL_AT + 1))
@@ -60,9 +60,9 @@ pub(crate) fn block_transfer<C: Core>(
     at: Located,
 ) -> Result<Next, Stop>
     requires { at.address < 2 ^ 18 }
-    ensures does { (s : Status) → ended (user space.new (words core.new)) s result ≡ carried_out BlockTransfer (user space.old (words core.old)) s word at }
-    ensures kept { Kept space.old (words core.old) space.new (words core.new) }
-    ensures rest { rest core.new ≡ rest core.old }
+    ensures does { (s : Status) → ended (user space.new (C.words core.new)) s result ≡ carried_out BlockTransfer (user space.old (C.words core.old)) s word at }
+    ensures kept { Kept space.old (C.words core.old) space.new (C.words core.new) }
+    ensures rest { C.rest core.new ≡ C.rest core.old }
 {
     let ac = space.accumulators[accumulator(word) as usize];
     let to = ac % HALF;

@@ -37,10 +37,10 @@ impl Drop for Guard<'_> {
 /// One step of a program: the word at PC is fetched and executed. A fault puts PC and flags back, and the words
 /// that were written before it stand.
 pub fn step<C: Core>(core: &mut C, place: &mut Place) -> Result<(), Stop>
-    ensures does { stepped (state place.new (words core.new)) (stop_of result) ≡ step_of (state place.old (words core.old)) }
+    ensures does { stepped (state place.new (C.words core.new)) (stop_of result) ≡ step_of (state place.old (C.words core.old)) }
     ensures xct { ExecutesInPlace }
-    ensures kept { Kept place.old.space (words core.old) place.new.space (words core.new) }
-    ensures rest { rest core.new ≡ rest core.old }
+    ensures kept { Kept place.old.space (C.words core.old) place.new.space (C.words core.new) }
+    ensures rest { C.rest core.new ≡ C.rest core.old }
 {
     let saved = place.status;
     let mut guard = Guard {
@@ -67,10 +67,10 @@ pub struct Reply {
 
 /// Steps of a program until so many are done or one stops it.
 pub fn run<C: Core>(core: &mut C, place: &mut Place, most: u64) -> Reply
-    ensures does { ran (state place.new (words core.new)) result.steps result.stop ≡ replied (run_of most (state place.old (words core.old))) }
+    ensures does { ran (state place.new (C.words core.new)) result.steps result.stop ≡ replied (run_of most (state place.old (C.words core.old))) }
     ensures splits { RunSplits }
-    ensures kept { Kept place.old.space (words core.old) place.new.space (words core.new) }
-    ensures rest { rest core.new ≡ rest core.old }
+    ensures kept { Kept place.old.space (C.words core.old) place.new.space (C.words core.new) }
+    ensures rest { C.rest core.new ≡ C.rest core.old }
 {
     let mut done = 0;
     while done < most {

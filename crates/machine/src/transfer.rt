@@ -20,9 +20,9 @@ pub(crate) fn transfer<C: Core>(
     to: u64,
 ) -> Result<(), Stop>
     requires { (from < 2 ^ 18) × (to < 2 ^ 18) }
-    ensures does { (s : Status) → ended (user space.new (words core.new)) s result ≡ transferred count from to (user space.old (words core.old)) s }
-    ensures kept { Kept space.old (words core.old) space.new (words core.new) }
-    ensures rest { rest core.new ≡ rest core.old }
+    ensures does { (s : Status) → ended (user space.new (C.words core.new)) s result ≡ transferred count from to (user space.old (C.words core.old)) s }
+    ensures kept { Kept space.old (C.words core.old) space.new (C.words core.new) }
+    ensures rest { C.rest core.new ≡ C.rest core.old }
 {
     let mut left = count;
     let mut source = from;

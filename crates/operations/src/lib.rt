@@ -1,6 +1,8 @@
 //! The operations of the KA10: what an instruction is, what it is given, what it does, and how a word's code
 //! says which one it is.
 
+#![tactic(auto)]
+
 mod decoding;
 mod effect;
 mod fields;

@@ -1,6 +1,8 @@
 //! The packed layout, two 36-bit words in nine bytes: packing and unpacking whole lists, and the core
 //! that lies in packed bytes.
 
+#![tactic(auto)]
+
 mod layout;
 mod packed_core;
 mod packing;

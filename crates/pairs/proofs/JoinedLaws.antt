@@ -1,5 +1,5 @@
 -- Reading and writing either part of a joined core.
-use Rattle.std.proofs.Common.{◌≡◌, ℕ, ◌-◌, ◌<◌, ◌≤◌, List, ◌++◌, length, set, Result, sym, refl, ap, ◌∙◌, arith}
+use Rattle.std.proofs.Common.{◌≡◌, ℕ, ◌-◌, ◌<◌, ◌≤◌, List, ◌++◌, length, Result, sym, refl, ap, ◌∙◌, arith}
 use Rattle.memory.specs.Access.{Reads, Writes}
 use Rattle.memory.specs.Cut.{over, over-set}
 use Rattle.pairs.proofs.Whole.{reads-part, writes-part, keeps-part}

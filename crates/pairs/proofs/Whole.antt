@@ -1,5 +1,5 @@
 -- A whole that is made of a part: what the part answers at b, the whole, cut, answers at a.
-use Rattle.std.proofs.Common.{◌≡◌, ℕ, ◌<◌, ◌≤◌, List, length, get_or, set, Ok, Err, Result, sym, refl, ap, ◌∙◌, arith}
+use Rattle.std.proofs.Common.{◌≡◌, ℕ, ◌<◌, ◌≤◌, List, length, get_or, set, Ok, Err, Result, sym, ap, ◌∙◌, arith}
 use Rattle.memory.specs.Access.{Reads, Writes}
 use Rattle.memory.specs.Cut.{cut, length_cut, get_or-cut, set-cut}
 use Rattle.words.specs.declared.refusal.Refusal.{Refusal}

@@ -1,6 +1,8 @@
 //! The shifts and rotations of the PDP-10 (KA10) on 36-bit words, and the count of leading zeros.
 //! Every function takes the low 36 bits of each word that it is given.
 
+#![tactic(auto)]
+
 mod arithmetic;
 mod arithmetic_pair;
 mod distances;

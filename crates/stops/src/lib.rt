@@ -1,5 +1,7 @@
 //! Why a run of a program ends, and the state that its place is in then.
 
+#![tactic(auto)]
+
 mod state;
 mod stop;
 

@@ -1,5 +1,7 @@
 //! The 36-bit word of the PDP-10, and the refusals that every layer above shares.
 
+#![tactic(auto)]
+
 mod refusal;
 mod word;
 

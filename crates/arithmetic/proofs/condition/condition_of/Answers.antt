@@ -23,8 +23,8 @@ returns-in-5 c = let h = coded c.args.code 5 c.in-5.is in record { value = h.0; 
 pub returns-in-6 : goal.returns-in-6
 returns-in-6 c = let h = coded c.args.code 6 c.in-6.is in record { value = h.0; law = h.1 }
 
-pub returns-in-default : goal.returns-in-default
-returns-in-default c =
+pub returns-in_default : goal.returns-in_default
+returns-in_default c =
     let last : c.args.code % 8 ≡ 7 = omega arith in
     let h = coded c.args.code 7 last in
     record { value = h.0; law = h.1 }

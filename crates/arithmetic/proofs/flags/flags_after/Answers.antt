@@ -9,6 +9,6 @@ unfolding flags_after xor
 returns c =
     let e : c.raise.result ≡ flags_after c.args.flags c.args.carry0 c.args.carry1 =
     c.raise.ensures
-    ∙ ap (raised c.args.carry1 0o100000) (c.raise-with-carry0.ensures ∙ ap (raised c.args.carry0 0o200000) c.raise-with-overflow.ensures) in
+    ∙ ap (raised c.args.carry1 0o100000) (c.raise-with_carry0.ensures ∙ ap (raised c.args.carry0 0o200000) c.raise-with_overflow.ensures) in
     let l = subst (FlagsLaw c.args.flags c.args.carry0 c.args.carry1) (sym e) (flags-law c.args.flags c.args.carry0 c.args.carry1) in
     record { value = e; half = half c.args.flags c.raise.result l.above; law = l }

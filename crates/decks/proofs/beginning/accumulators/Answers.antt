@@ -7,10 +7,10 @@ pub loop-k-preserved : goal.loop-k-preserved
 loop-k-preserved c =
     let xs = c.loop-k.first in
     let i = c.loop-k.k in
-    let w = c.word-at.result in
+    let w = c.word_at.result in
     let in' : c.loop-k.k < length c.loop-k.first = omega (arith, c.loop-k.invariant.0) in (
       length-set xs i w ∙ c.loop-k.invariant.0,
-      below_more _ i (λ j l. get_or-set_other xs i j w 0 (λ e. omega arith) ∙ c.loop-k.invariant.1 j l) (get_or-set_same xs i w 0 in' ∙ c.word-at.ensures),
+      below_more _ i (λ j l. get_or-set_other xs i j w 0 (λ e. omega arith) ∙ c.loop-k.invariant.1 j l) (get_or-set_same xs i w 0 in' ∙ c.word_at.ensures),
       λ j l. get_or-set_other xs i j w 0 (λ e. omega arith) ∙ c.loop-k.invariant.2 j (omega arith),
     )
 

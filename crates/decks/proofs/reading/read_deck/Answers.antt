@@ -23,7 +23,7 @@ loop-c-preserved c =
     let text = c.args.text.now in
     let i = c.loop-c.c-index in
     let s = reading c.loop-c.reader in
-    let went = c.in-default.ensures in
+    let went = c.in_default.ensures in
     let t = reading c.step.new.self in
     let kept = step_keeps (get_or text i 0) s t c.loop-c.invariant.1 went in (
       read_more text i s (omega arith) c.loop-c.invariant.0 t went,

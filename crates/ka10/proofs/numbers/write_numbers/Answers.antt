@@ -14,11 +14,11 @@ loop-i-preserved c =
     let ns = c.args.given.now in
     let width : 8 * i + 8 - 8 * i ≡ 8 = omega arith in
     let in' : i < length ns = omega arith in
-    rw width (number_more i ns c.args.bytes.now c.loop-i.bytes c.copy-from-slice.new.self in' c.loop-i.invariant (c.copy-from-slice.ensures.after ∙ c.to-be-bytes-eight.ensures))
+    rw width (number_more i ns c.args.bytes.now c.loop-i.bytes c.copy_from_slice.new.self in' c.loop-i.invariant (c.copy_from_slice.ensures.after ∙ c.to_be_bytes-eight.ensures))
 
 pub returns : goal.returns
 returns c =
     record {
       bytes = numbers-all c.loop-i.i c.args.given.now c.args.bytes.now c.loop-i.bytes (omega arith) (omega arith) c.loop-i.invariant;
-      wide = λ k. (c.type-inv.given k).fits;
+      wide = λ k. (c.type_inv.given k).fits;
     }

@@ -3,20 +3,20 @@ use Rattle.ka10.proofs.Lifting.{block_within, done-in-core}
 use Rattle.ka10.proofs.program.run_in_core.Goals as goal
 use Rattle.std.proofs.lemmas.List.{length-drop, length-take}
 
-pub overflow-mul-start : goal.overflow-mul-start
-overflow-mul-start c = omega (arith, block_within c.args.core.now c.args.base c.args.blocks c.requires.block.1)
+pub overflow_mul-start : goal.overflow_mul-start
+overflow_mul-start c = omega (arith, block_within c.args.core.now c.args.base c.args.blocks c.requires.block.1)
 
-pub overflow-mul-end : goal.overflow-mul-end
-overflow-mul-end c = omega (arith, block_within c.args.core.now c.args.base c.args.blocks c.requires.block.1)
+pub overflow_mul-end : goal.overflow_mul-end
+overflow_mul-end c = omega (arith, block_within c.args.core.now c.args.base c.args.blocks c.requires.block.1)
 
-pub overflow-add-end : goal.overflow-add-end
-overflow-add-end c = omega (arith, block_within c.args.core.now c.args.base c.args.blocks c.requires.block.1)
+pub overflow_add-end : goal.overflow_add-end
+overflow_add-end c = omega (arith, block_within c.args.core.now c.args.base c.args.blocks c.requires.block.1)
 
-pub slice-bounds-run-program-end : goal.slice-bounds-run-program-end
-slice-bounds-run-program-end c = omega (arith, block_within c.args.core.now c.args.base c.args.blocks c.requires.block.1)
+pub slice_bounds-run_program-end : goal.slice_bounds-run_program-end
+slice_bounds-run_program-end c = omega (arith, block_within c.args.core.now c.args.base c.args.blocks c.requires.block.1)
 
-pub run-program-requires : goal.run-program-requires
-run-program-requires c =
+pub run_program-requires : goal.run_program-requires
+run_program-requires c =
     let core = c.args.core.now in
     let start = 4608 * c.args.base in
     let width = start + 4608 * c.args.blocks - start in
@@ -33,6 +33,6 @@ returns c =
     let start = 4608 * c.args.base in
     let width = start + 4608 * c.args.blocks - start in
     let inside = block_within core c.args.base c.args.blocks c.requires.block.1 in
-    done-in-core core c.run-program.new.block c.args.base c.args.blocks c.requires.block.1 c.requires.block.0
-    (omega (arith, inside, length-take width (drop start core), length-drop start core, c.run-program.auto.block))
-    c.args.given.now c.args.steps c.args.bytes.now c.run-program.new.bytes c.args.reply.now c.run-program.new.reply width (omega arith) c.run-program.ensures
+    done-in-core core c.run_program.new.block c.args.base c.args.blocks c.requires.block.1 c.requires.block.0
+    (omega (arith, inside, length-take width (drop start core), length-drop start core, c.run_program.auto.block))
+    c.args.given.now c.args.steps c.args.bytes.now c.run_program.new.bytes c.args.reply.now c.run_program.new.reply width (omega arith) c.run_program.ensures

@@ -14,6 +14,6 @@ pub returns-in-2 : goal.returns-in-2
 unfolding half_move_of
 returns-in-2 c = search rules
 
-pub returns-in-default-3 : goal.returns-in-default-3
+pub returns-in_default-3 : goal.returns-in_default-3
 unfolding half_move_of
-returns-in-default-3 c = search rules
+returns-in_default-3 c = search rules

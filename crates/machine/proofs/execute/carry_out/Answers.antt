@@ -2,7 +2,7 @@ use Rattle.machine.proofs.ExecutionLaws.{execute-carried, ordinary-carried}
 use Rattle.machine.proofs.Frames.{kept_refl}
 use Rattle.machine.proofs.execute.carry_out.Goals as goal
 use Rattle.machine.specs.User.{user}
-use Rattle.std.proofs.Common.{◌≡◌, refl, ◌∙◌}
+use Rattle.std.proofs.Common.{refl, ◌∙◌}
 
 pub returns-in-Execute : goal.returns-in-Execute
 returns-in-Execute g c =

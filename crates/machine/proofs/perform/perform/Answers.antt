@@ -9,9 +9,9 @@ use Rattle.machine.specs.Execution.{operand_from}
 use Rattle.machine.specs.User.{user}
 use Rattle.std.proofs.lemmas.Result.{err_from_is_err_and}
 
-pub returns-in-err-operand : goal.returns-in-err-operand
-returns-in-err-operand g c =
-    let p = err_from_is_err_and c.from-residual.result c.from-residual.ensures.1 in
+pub returns-in_err-operand : goal.returns-in_err-operand
+returns-in_err-operand g c =
+    let p = err_from_is_err_and c.from_residual.result c.from_residual.ensures.1 in
     let s : length c.args.space.now.accumulators ≡ 16 = search rules in
     let ws = g.C.Core.words c.args.core.now in
     let q = c.args.space.now in
@@ -19,9 +19,9 @@ returns-in-err-operand g c =
     let v = user-low q.accumulators q.base q.blocks ws s (accumulator c.args.word) l in
     let u = user c.args.space.now ws in
     let f = c.accumulator-field.ensures in
-    let at = c.operand-address.ensures ∙ ap (λ a. operand_at c.args.op c.args.at.address (get_or c.args.space.now.accumulators a 0)) f ∙ ap (operand_at c.args.op c.args.at.address) (sym v) in
-    let h = c.in-err-operand.ensures.value ∙ ap (λ o. operand_from o (user c.args.space.now (g.C.Core.words c.args.core.now))) at in
-    rw (p.1, p.2) (record { does = performed-err c.args.op u c.args.status.now c.args.word c.args.at c.in-err-operand.field-0.0 h; kept = kept_refl q ws; rest = refl })
+    let at = c.operand_address.ensures ∙ ap (λ a. operand_at c.args.op c.args.at.address (get_or c.args.space.now.accumulators a 0)) f ∙ ap (operand_at c.args.op c.args.at.address) (sym v) in
+    let h = c.in_err-operand.ensures.value ∙ ap (λ o. operand_from o (user c.args.space.now (g.C.Core.words c.args.core.now))) at in
+    rw (p.1, p.2) (record { does = performed-err c.args.op u c.args.status.now c.args.word c.args.at c.in_err-operand.field-0.0 h; kept = kept_refl q ws; rest = refl })
 
 pub returns : goal.returns
 returns g c =
@@ -33,12 +33,12 @@ returns g c =
     let v = user-low q.accumulators q.base q.blocks ws s a l in
     let n = user-low q.accumulators q.base q.blocks ws s ((a + 1) % 16) (omega arith) in
     let u = user c.args.space.now ws in
-    let x = c.in-ok-operand.operand in
+    let x = c.in_ok-operand.operand in
     let f = c.accumulator-field.ensures in
-    let at = c.operand-address.ensures ∙ ap (λ a. operand_at c.args.op c.args.at.address (get_or c.args.space.now.accumulators a 0)) f ∙ ap (operand_at c.args.op c.args.at.address) (sym v) in
-    let h = c.in-ok-operand.ensures.value ∙ ap (λ o. operand_from o (user c.args.space.now (g.C.Core.words c.args.core.now))) at in
+    let at = c.operand_address.ensures ∙ ap (λ a. operand_at c.args.op c.args.at.address (get_or c.args.space.now.accumulators a 0)) f ∙ ap (operand_at c.args.op c.args.at.address) (sym v) in
+    let h = c.in_ok-operand.ensures.value ∙ ap (λ o. operand_from o (user c.args.space.now (g.C.Core.words c.args.core.now))) at in
     let k = performed-ok c.args.op u c.args.status.now c.args.word c.args.at x h in
     let d = c.apply.ensures.does in
-    let made = c.effect-of-effect.ensures.value in
-    let w = c.call-word.ensures.value in
+    let made = c.effect_of-effect.ensures.value in
+    let w = c.call_word.ensures.value in
     record { does = (cc); kept = c.apply.ensures.kept; rest = c.apply.ensures.rest }

@@ -5,10 +5,10 @@ use Rattle.machine.specs.Execution.{setting}
 use Rattle.machine.specs.User.{user}
 use Rattle.std.proofs.lemmas.Option.{MatchOption-at_some}
 
-pub invariant-of-space : goal.invariant-of-space
-invariant-of-space c =
+pub invariant_of-space : goal.invariant_of-space
+invariant_of-space c =
     let p = c.args.space.now in
-    (p.some, (p.near, (narrow-set p.accumulators c.args.k c.in-Some.v (MatchOption-at_some (Unit {0}) (λ v. v < 2 ^ 36) c.in-Some.v c.in-Some.is c.requires.1) p.narrow, tt)))
+    record { some = p.some; near = p.near; narrow = narrow-set p.accumulators c.args.k c.in-Some.v (MatchOption-at_some (Unit {0}) (λ v. v < 2 ^ 36) c.in-Some.v c.in-Some.is c.requires.1) p.narrow }
 
 pub returns-in-Some : goal.returns-in-Some
 returns-in-Some c =

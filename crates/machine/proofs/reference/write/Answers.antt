@@ -1,12 +1,12 @@
-use Rattle.std.proofs.Common.{◌≡◌, ◌+◌, ◌*◌, ◌<◌, ◌≤◌, length, set, sym, refl, arith, rules}
+use Rattle.std.proofs.Common.{◌≡◌, ◌+◌, ◌*◌, ◌<◌, ◌≤◌, length, sym, refl, arith, rules}
 use Rattle.machine.proofs.UserLaws.{user-length, set-low, set-high, set_out, narrow-set}
 use Rattle.machine.proofs.reference.write.Goals as goal
 use Rattle.machine.specs.User.{user}
 use Rattle.std.proofs.lemmas.List.{length-set, take-set-le, drop-set-lt}
 use Rattle.std.proofs.lemmas.Bool.Decides.{nat_tests}
 
-pub invariant-of-space : goal.invariant-of-space
-invariant-of-space g c = let p = c.args.space.now in (p.some, (p.near, (narrow-set p.accumulators c.args.a c.args.w c.requires p.narrow, tt)))
+pub invariant_of-space : goal.invariant_of-space
+invariant_of-space g c = let p = c.args.space.now in record { some = p.some; near = p.near; narrow = narrow-set p.accumulators c.args.a c.args.w c.requires p.narrow }
 
 pub returns-then-a-lt16 : goal.returns-then-a-lt16
 returns-then-a-lt16 g c =

@@ -1,4 +1,4 @@
-use Rattle.std.proofs.Common.{◌≡◌, ◌+◌, ◌-◌, ◌<◌, cond, sym, refl, ap, ◌∙◌, arith}
+use Rattle.std.proofs.Common.{◌≡◌, ◌+◌, ◌-◌, ◌<◌, cond, refl, ap, ◌∙◌, arith}
 use Rattle.machine.proofs.Frames.{kept_refl, kept_trans}
 use Rattle.machine.proofs.StepLaws.{byte-cond, run-begins, run_more, run-stops, run_ends, run-splits}
 use Rattle.machine.proofs.stepping.run.Goals as goal
@@ -31,7 +31,7 @@ returns-in-Err g c =
     let d = c.in-Err.ensures in
     let l : c.loop-done.done < c.args.most = omega arith in
     let t = c.in-Err.stop in
-    let last = c.from.ensures ∙ byte-cond c.step-counts.result ∙ ap (λ b. cond b 1 0) c.step-counts.ensures in
+    let last = c.from.ensures ∙ byte-cond c.step_counts.result ∙ ap (λ b. cond b 1 0) c.step_counts.ensures in
     record {
       does = ap (λ n. ran y (c.loop-done.done + n) t) last ∙ ap replied (run-stops (run_of c.args.most m) c.args.most c.loop-done.done x c.loop-done.invariant.1 y t l d.does);
       splits = run-splits;

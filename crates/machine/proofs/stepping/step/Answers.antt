@@ -1,4 +1,4 @@
-use Rattle.std.proofs.Common.{◌≡◌, ◌+◌, ◌%◌, ◌^◌, Some, None, Ok, Err, sym, refl, ap, ◌∙◌}
+use Rattle.std.proofs.Common.{◌+◌, ◌%◌, ◌^◌, Some, None, Ok, sym, refl, ap, ◌∙◌}
 use Rattle.machine.proofs.Frames.{kept_refl}
 use Rattle.machine.proofs.InPlace.{executes-in-place}
 use Rattle.machine.proofs.StepLaws.{step-err, step_ok}
@@ -8,31 +8,31 @@ use Rattle.machine.specs.Steps.{machine, stepped, settled}
 use Rattle.machine.specs.User.{user}
 use Rattle.std.proofs.lemmas.Result.{err_from_is_err_and}
 
-pub returns-in-err-word : goal.returns-in-err-word
-returns-in-err-word g c =
-    let p = err_from_is_err_and c.from-residual.result c.from-residual.ensures.1 in
+pub returns-in_err-word : goal.returns-in_err-word
+returns-in_err-word g c =
+    let p = err_from_is_err_and c.from_residual.result c.from_residual.ensures.1 in
     let ws = g.C.Core.words c.args.core.now in
     let u = user c.args.place.now.space ws in
-    let t = c.in-err-word.field-0.0 in
+    let t = c.in_err-word.field-0.0 in
     rw (p.1, p.2)
     (record {
-      does = ap (λ s. stepped (machine u s) (Some t)) c.drop-guard.ensures ∙ step-err u c.args.place.now.status t c.in-err-word.ensures.value;
+      does = ap (λ s. stepped (machine u s) (Some t)) c.drop-guard.ensures ∙ step-err u c.args.place.now.status t c.in_err-word.ensures.value;
       xct = executes-in-place;
       kept = kept_refl c.args.place.now.space ws;
       rest = refl;
     })
 
-pub returns-in-err-ending : goal.returns-in-err-ending
-returns-in-err-ending g c =
-    let p = err_from_is_err_and c.from-residual-in-err-ending.result c.from-residual-in-err-ending.ensures.1 in
+pub returns-in_err-ending : goal.returns-in_err-ending
+returns-in_err-ending g c =
+    let p = err_from_is_err_and c.from_residual-in_err-ending.result c.from_residual-in_err-ending.ensures.1 in
     let u = user c.args.place.now.space (g.C.Core.words c.args.core.now) in
     let s = c.args.place.now.status in
     let v = user c.execute.new.space (g.C.Core.words c.execute.new.core) in
-    let t = c.in-err-ending.field-0.0 in
-    let d = c.in-err-ending.ensures in
+    let t = c.in_err-ending.field-0.0 in
+    let d = c.in_err-ending.ensures in
     rw (p.1, p.2)
     (record {
-      does = ap (λ x. stepped (machine v x) (Some t)) c.drop-guard-in-err-ending.ensures ∙ ap (settled s) d.does ∙ step_ok u s c.in-ok-word.word ((s.pc % 2 ^ 18 + 1) % 2 ^ 18) refl c.in-ok-word.ensures.value;
+      does = ap (λ x. stepped (machine v x) (Some t)) c.drop-guard-in_err-ending.ensures ∙ ap (settled s) d.does ∙ step_ok u s c.in_ok-word.word ((s.pc % 2 ^ 18 + 1) % 2 ^ 18) refl c.in_ok-word.ensures.value;
       xct = executes-in-place;
       kept = d.kept;
       rest = d.rest;
@@ -44,10 +44,10 @@ returns-in-None g c =
     let s = c.args.place.now.status in
     let v = user c.execute.new.space (g.C.Core.words c.execute.new.core) in
     let z = c.execute.new.status in
-    let d = c.in-ok-ending.ensures in
+    let d = c.in_ok-ending.ensures in
     let e = ap (λ o. settled s (ended v z (Ok o))) (sym c.in-None.is) in
     record {
-      does = ap (λ x. stepped (machine v x) None) c.drop-guard-in-None.ensures ∙ e ∙ ap (settled s) d.does ∙ step_ok u s c.in-ok-word.word ((s.pc % 2 ^ 18 + 1) % 2 ^ 18) refl c.in-ok-word.ensures.value;
+      does = ap (λ x. stepped (machine v x) None) c.drop-guard-in-None.ensures ∙ e ∙ ap (settled s) d.does ∙ step_ok u s c.in_ok-word.word ((s.pc % 2 ^ 18 + 1) % 2 ^ 18) refl c.in_ok-word.ensures.value;
       xct = executes-in-place;
       kept = d.kept;
       rest = d.rest;
@@ -59,10 +59,10 @@ returns g c =
     let s = c.args.place.now.status in
     let v = user c.execute.new.space (g.C.Core.words c.execute.new.core) in
     let z = c.execute.new.status in
-    let d = c.in-ok-ending.ensures in
+    let d = c.in_ok-ending.ensures in
     let e = ap (λ o. settled s (ended v z (Ok o))) (sym c.in-Some.is) in
     record {
-      does = ap (λ x. stepped (machine v x) (Some c.in-Some.stop)) c.drop-guard-2.ensures ∙ e ∙ ap (settled s) d.does ∙ step_ok u s c.in-ok-word.word ((s.pc % 2 ^ 18 + 1) % 2 ^ 18) refl c.in-ok-word.ensures.value;
+      does = ap (λ x. stepped (machine v x) (Some c.in-Some.stop)) c.drop-guard-2.ensures ∙ e ∙ ap (settled s) d.does ∙ step_ok u s c.in_ok-word.word ((s.pc % 2 ^ 18 + 1) % 2 ^ 18) refl c.in_ok-word.ensures.value;
       xct = executes-in-place;
       kept = d.kept;
       rest = d.rest;

@@ -31,8 +31,8 @@ pub returns-in-6 : goal.returns-in-6
 unfolding decoded
 returns-in-6 c = search rules
 
-pub returns-in-default : goal.returns-in-default
+pub returns-in_default : goal.returns-in_default
 unfolding decoded
-returns-in-default c =
+returns-in_default c =
     let last : opcode c.args.word / 64 % 8 ≡ 7 = omega arith in
     search rules

@@ -12,5 +12,5 @@ returns c =
     let whole = c.if-bytes-ne0.false in
     record {
       unpacks = (whole, c.if-words-bytes.false, all);
-      packs-to-the-same = ap pack all ∙ pack-unpack bs (λ i. (c.type-inv.bytes i).fits) whole;
+      packs_to_the_same = ap pack all ∙ pack-unpack bs (λ i. (c.type_inv.bytes i).fits) whole;
     }

@@ -14,9 +14,9 @@ returns c =
     let w = c.args.w in
     let e = c.args.e in
     let both : ℕ → Distance → ℕ × Bool = λ m d. (moved_beside 35 (negative w) m d, overflows 35 (negative w) m d) in
-    let q : c.move-field-moved.result ≡ both (w % 2 ^ 35) (distance_of e) = c.move-field-moved.ensures ∙ ap₂ both (omega arith) c.distance.ensures.value in
+    let q : c.move_field-moved.result ≡ both (w % 2 ^ 35) (distance_of e) = c.move_field-moved.ensures ∙ ap₂ both (omega arith) c.distance.ensures.value in
     let above : ℕ → ℕ × Bool → ℕ × Bool = λ x p. (x + p.0, p.1) in
-    let v : above (w % 2 ^ 36 - w % 2 ^ 36 % 2 ^ 35) c.move-field-moved.result ≡ arithmetic w e = ap₂ above (omega arith) q in
+    let v : above (w % 2 ^ 36 - w % 2 ^ 36 % 2 ^ 35) c.move_field-moved.result ≡ arithmetic w e = ap₂ above (omega arith) q in
     record {
       value = v;
       narrow = subst (λ (r : ℕ × Bool). r.0 < 2 ^ 36) (sym v) (arithmetic-below w e);

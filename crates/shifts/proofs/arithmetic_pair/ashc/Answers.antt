@@ -31,9 +31,9 @@ returns c =
     let e = c.args.e in
     let n = c.places.ensures ∙ ap places c.distance-by.ensures.value in
     let both : ℕ → Distance → ℕ × Bool = λ m d. (moved_beside 70 (negative a) m d, overflows 70 (negative a) m d) in
-    let q : c.move-fields-moved.result ≡ both (beside a b) (distance_of e) = c.move-fields-moved.ensures ∙ ap₂ both c.fields.ensures.value c.distance-by.ensures.value in
+    let q : c.move_fields-moved.result ≡ both (beside a b) (distance_of e) = c.move_fields-moved.ensures ∙ ap₂ both c.fields.ensures.value c.distance-by.ensures.value in
     let above : ℕ → ℕ × Bool → ℕ × ℕ × Bool = λ x p. (x + p.0 / 2 ^ 35, x + p.0 % 2 ^ 35, p.1) in
-    let v : above (a % 2 ^ 36 - a % 2 ^ 36 % 2 ^ 35) c.move-fields-moved.result ≡ arithmetic_pair a b e =
+    let v : above (a % 2 ^ 36 - a % 2 ^ 36 % 2 ^ 35) c.move_fields-moved.result ≡ arithmetic_pair a b e =
     ap₂ above (omega arith) q ∙ sym (some-place a b e (λ z. c.if-places-eq0.false (n ∙ z))) in
     record {
       value = v;

@@ -2,8 +2,8 @@ use Rattle.std.proofs.Common.{ℕ, ◌-◌, ◌^◌, Bool, cond, sym, ap, ◌∙
 use Rattle.shifts.proofs.arithmetic_pair.signs.Goals as goal
 use Rattle.std.proofs.lemmas.Nat.{one_shl, pow_pos}
 
-pub overflow-sub-result : goal.overflow-sub-result
-overflow-sub-result c = omega (arith, one_shl c.args.places 128 (omega arith), pow_pos c.args.places)
+pub overflow_sub-result : goal.overflow_sub-result
+overflow_sub-result c = omega (arith, one_shl c.args.places 128 (omega arith), pow_pos c.args.places)
 
 pub returns-then-minus : goal.returns-then-minus
 returns-then-minus c =

@@ -9,8 +9,8 @@ counted c =
     let p : 0 < c.args.w % 2 ^ 36 = omega arith in
     omega (arith, of_some c.args.w p, wider (c.args.w % 2 ^ 36) p (omega arith))
 
-pub overflow-sub-result : goal.overflow-sub-result
-overflow-sub-result c = omega (arith, counted c)
+pub overflow_sub-result : goal.overflow_sub-result
+overflow_sub-result c = omega (arith, counted c)
 
 pub returns-then-word-eq0 : goal.returns-then-word-eq0
 returns-then-word-eq0 c = record { value = sym (of_none c.args.w (omega arith)); within = omega arith; first = λ p. absurd (omega arith); specimens = leading-so }

@@ -9,7 +9,7 @@ unfolding logical
 returns c =
     let w = c.args.w in
     let e = c.args.e in
-    let v : c.shift-word.result ≡ logical w e = c.shift-word.ensures ∙ ap (shifted 36 (w % 2 ^ 36)) c.distance.ensures.value in
+    let v : c.shift_word.result ≡ logical w e = c.shift_word.ensures ∙ ap (shifted 36 (w % 2 ^ 36)) c.distance.ensures.value in
     record {
       value = v;
       narrow = subst (λ (r : ℕ). r < 2 ^ 36) (sym v) (logical-below w e);

@@ -9,7 +9,7 @@ unfolding rotated
 returns c =
     let w = c.args.w in
     let e = c.args.e in
-    let v : c.turn-word.result ≡ rotated w e = c.turn-word.ensures ∙ ap (turned 36 (w % 2 ^ 36)) c.distance.ensures.value in
+    let v : c.turn_word.result ≡ rotated w e = c.turn_word.ensures ∙ ap (turned 36 (w % 2 ^ 36)) c.distance.ensures.value in
     record {
       value = v;
       narrow = subst (λ (r : ℕ). r < 2 ^ 36) (sym v) (rotated-below w e);

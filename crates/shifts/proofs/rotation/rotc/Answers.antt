@@ -7,7 +7,7 @@ use Rattle.shifts.specs.Rotations.{turned, rotated_pair, RotatedPairThereAndBack
 
 pub split-requires : goal.split-requires
 split-requires c =
-    subst (λ (x : ℕ). x < 2 ^ 72) (sym c.turn-pair.ensures) (turned-below 72 c.join.result c.distance.result (omega arith) c.join.ensures.narrow)
+    subst (λ (x : ℕ). x < 2 ^ 72) (sym c.turn_pair.ensures) (turned-below 72 c.join.result c.distance.result (omega arith) c.join.ensures.narrow)
 
 pub returns : goal.returns
 unfolding rotated_pair
@@ -16,7 +16,7 @@ returns c =
     let b = c.args.b in
     let e = c.args.e in
     let v : c.split.result ≡ rotated_pair a b e =
-    c.split.ensures ∙ ap halves (c.turn-pair.ensures ∙ ap₂ (turned 72) c.join.ensures.value c.distance.ensures.value) in
+    c.split.ensures ∙ ap halves (c.turn_pair.ensures ∙ ap₂ (turned 72) c.join.ensures.value c.distance.ensures.value) in
     record {
       value = v;
       narrow = subst (λ (r : ℕ × ℕ). (r.0 < 2 ^ 36) × (r.1 < 2 ^ 36)) (sym v) (rotated_pair-below a b e);

@@ -4,8 +4,8 @@ use Rattle.words.proofs.word.all_words.Goals as goal
 use Rattle.std.proofs.lemmas.List.{at_drop_all}
 use Rattle.std.proofs.Common.{sym, ◌∙◌, arith}
 
-pub returns-then-n-ge-WORD-LIMIT : goal.returns-then-n-ge-WORD-LIMIT
-returns-then-n-ge-WORD-LIMIT c =
+pub returns-then-n-ge-WORD_LIMIT : goal.returns-then-n-ge-WORD_LIMIT
+returns-then-n-ge-WORD_LIMIT c =
     sym (words-not c.args.numbers.now c.loop-n.n-index (omega arith) (omega arith)) ∙ c.loop-n.invariant
 
 pub loop-n-preserved : goal.loop-n-preserved
