@@ -19,8 +19,7 @@ fn word_count(bytes: &mut [u8]) -> u64
 
 /// Runs one program by bytes: up to `steps` steps of the program that `record` holds, in its place in the packed
 /// core, with what came of it in `reply`. The result is 0, or the number of the refusal, and then nothing has changed.
-#[unsafe(no_mangle)]
-pub extern "C" fn ka10_run(
+pub fn ka10_run(
     core: &mut [u8],
     base: u64,
     blocks: u64,
