@@ -1,1 +1,3 @@
+mod Answered
+pub mod Possible
 pub mod Pushdowns

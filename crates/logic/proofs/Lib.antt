@@ -1,4 +1,3 @@
-pub mod BitLaws
 pub mod BooleanLaws
 pub mod HalfMoveLaws
 pub mod MaskLaws

@@ -1,5 +1,4 @@
 pub mod Boolean
 pub mod Codes
 pub mod HalfMoves
-pub mod Halves
 pub mod Masks

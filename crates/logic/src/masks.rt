@@ -3,8 +3,7 @@
 ghost use Rattle.std.specs.Prelude.{◌≡◌, ◌^◌, ◌<◌, Decides};
 ghost use Rattle.logic.specs.Masks.{Changes, Skips, change_of, changed_by, skip_when_of, skips_when};
 
-use crate::booleans::complement;
-use words::WORD_LIMIT;
+use words::{WORD_LIMIT, complement};
 
 /// What becomes of the masked bits of the accumulator.
 #[derive(Clone, Copy, PartialEq, Eq, Debug)]

@@ -2,17 +2,18 @@
 
 #![tactic(auto)]
 
+mod accumulators;
 mod address;
 mod execute;
 mod next;
 mod perform;
-mod place;
+mod program;
 mod reference;
-mod space;
 mod special;
 mod stepping;
 mod transfer;
 
-pub use place::Place;
-pub use space::Space;
+pub use accumulators::Accumulators;
+pub use program::Program;
+pub use reference::ACCUMULATORS;
 pub use stepping::{Reply, run, step};

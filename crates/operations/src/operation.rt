@@ -1,3 +1,5 @@
+//! The instructions, apart from the codes that name them.
+
 use arithmetic::Condition;
 use logic::{Change, HalfMove, SkipWhen};
 

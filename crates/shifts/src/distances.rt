@@ -1,7 +1,9 @@
-ghost use Rattle.shifts.specs.Distance.{places};
+//! How far a word is moved, and which way.
+
+ghost use Rattle.shifts.specs.Distance.{positions};
 ghost use Rattle.std.specs.Prelude.{◌≡◌};
 
-/// Which way, and how many places, a shift or a rotation moves its word.
+/// Which way, and how many positions, a shift or a rotation moves its word.
 #[derive(Clone, Copy)]
 pub enum Distance {
     Left(u64),
@@ -9,9 +11,9 @@ pub enum Distance {
 }
 
 impl Distance {
-    /// How many places, whichever way.
-    pub(crate) fn places(self) -> u64
-        ensures { result ≡ places self }
+    /// How many positions, whichever way.
+    pub(crate) fn positions(self) -> u64
+        ensures { result ≡ positions self }
     {
         match self {
             Distance::Left(n) => n,

@@ -1,4 +1,4 @@
 pub mod Bits
-pub mod Refusals
+pub mod Halves
 pub mod Signed
 pub mod Word

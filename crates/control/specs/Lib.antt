@@ -1,0 +1,4 @@
+pub mod Calls
+pub mod Jumps
+pub mod Pushdown
+pub mod Subroutines

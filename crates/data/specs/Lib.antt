@@ -1,0 +1,4 @@
+pub mod Booleans
+pub mod HalfWords
+pub mod Moves
+pub mod Tests

@@ -1,0 +1,59 @@
+use Rattle.std.proofs.Common.{◌≡◌, ◌+◌, ◌%◌, ◌^◌, Some, None, Ok, Err, sym, refl, ap, ◌∙◌}
+use Rattle.machine.proofs.StepLaws.{step-err, step_ok}
+use Rattle.machine.proofs.stepping.step_parts.Goals as goal
+use Rattle.machine.specs.Endings.{ended}
+use Rattle.machine.specs.Steps.{machine, stepped, settled}
+use Rattle.machine.specs.User.{user}
+use Rattle.std.proofs.lemmas.Result.{err_from_is_err_and}
+
+pub returns-in_err-word : goal.returns-in_err-word
+returns-in_err-word g c =
+    let p = err_from_is_err_and c.from_residual.result c.from_residual.ensures.1 in
+    let ws = g.C.Core.words c.args.core.now in
+    let u = user c.args.accumulators.now ws in
+    let t = c.in_err-word.field-0.0 in
+    rw (p.1, p.2)
+    (record {
+      does = ap (λ s. stepped (machine u s) (Some t)) c.drop-guard.ensures ∙ step-err u c.args.status.now t c.in_err-word.ensures.value;
+      rest = refl;
+    })
+
+pub returns-in_err-ending : goal.returns-in_err-ending
+returns-in_err-ending g c =
+    let p = err_from_is_err_and c.from_residual-in_err-ending.result c.from_residual-in_err-ending.ensures.1 in
+    let u = user c.args.accumulators.now (g.C.Core.words c.args.core.now) in
+    let s = c.args.status.now in
+    let v = user c.execute.new.accumulators (g.C.Core.words c.execute.new.core) in
+    let t = c.in_err-ending.field-0.0 in
+    let d = c.in_err-ending.ensures in
+    rw (p.1, p.2)
+    (record {
+      does = ap (λ x. stepped (machine v x) (Some t)) c.drop-guard-in_err-ending.ensures ∙ ap (settled s) d.does ∙ step_ok u s c.in_ok-word.word ((s.pc % 2 ^ 18 + 1) % 2 ^ 18) refl c.in_ok-word.ensures.value;
+      rest = d.rest;
+    })
+
+pub returns-in-None : goal.returns-in-None
+returns-in-None g c =
+    let u = user c.args.accumulators.now (g.C.Core.words c.args.core.now) in
+    let s = c.args.status.now in
+    let v = user c.execute.new.accumulators (g.C.Core.words c.execute.new.core) in
+    let z = c.execute.new.status in
+    let d = c.in_ok-ending.ensures in
+    let e = ap (λ o. settled s (ended v z (Ok o))) (sym c.in-None.is) in
+    record {
+      does = ap (λ x. stepped (machine v x) None) c.drop-guard-in-None.ensures ∙ e ∙ ap (settled s) d.does ∙ step_ok u s c.in_ok-word.word ((s.pc % 2 ^ 18 + 1) % 2 ^ 18) refl c.in_ok-word.ensures.value;
+      rest = d.rest;
+    }
+
+pub returns : goal.returns
+returns g c =
+    let u = user c.args.accumulators.now (g.C.Core.words c.args.core.now) in
+    let s = c.args.status.now in
+    let v = user c.execute.new.accumulators (g.C.Core.words c.execute.new.core) in
+    let z = c.execute.new.status in
+    let d = c.in_ok-ending.ensures in
+    let e = ap (λ o. settled s (ended v z (Ok o))) (sym c.in-Some.is) in
+    record {
+      does = ap (λ x. stepped (machine v x) (Some c.in-Some.stop)) c.drop-guard-2.ensures ∙ e ∙ ap (settled s) d.does ∙ step_ok u s c.in_ok-word.word ((s.pc % 2 ^ 18 + 1) % 2 ^ 18) refl c.in_ok-word.ensures.value;
+      rest = d.rest;
+    }

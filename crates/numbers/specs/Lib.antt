@@ -1,0 +1,4 @@
+pub mod Compares
+pub mod Division
+pub mod Shifts
+pub mod Sums

@@ -1,0 +1,4 @@
+pub mod Destinations
+pub mod Narrow
+pub mod Pointers
+pub mod Statuses
