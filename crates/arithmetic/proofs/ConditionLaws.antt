@@ -1,5 +1,5 @@
 -- A condition on the biased words is the same condition on the signed values, and the three bits of a code say which.
-use Rattle.std.proofs.Common.{◌≡◌, ℕ, zero, suc, ◌+◌, ◌/◌, ◌%◌, ◌^◌, ◌<◌, ◌≤◌, true, false, ◌&&◌, ◌||◌, eqb, ltb, leb, ◌≤ℤ◌, ◌<ℤ◌, Decides, sym, refl, ap, ◌∙◌, subst, arith}
+use Rattle.std.proofs.Common.{◌≡◌, ℕ, zero, suc, ◌+◌, ◌/◌, ◌%◌, ◌^◌, ◌<◌, ◌≤◌, ◌&&◌, ◌||◌, eqb, ltb, leb, ◌≤ℤ◌, ◌<ℤ◌, Decides, sym, refl, ap, ◌∙◌, subst, arith}
 use Rattle.arithmetic.proofs.SignedLaws.{signed_reads}
 use Rattle.arithmetic.specs.Condition.{biased_of, compared, holds_of, ComparisonLaw, condition_at, condition_of, CodeLaw}
 use Rattle.words.specs.Signed.{signed}

@@ -1,7 +1,6 @@
 -- What the raising of a flag does to each bit.
 use Rattle.std.proofs.Common.{◌≡◌, ℕ, zero, suc, ◌/◌, ◌%◌, ◌^◌, ◌<◌, Bool, true, false, ◌&&◌, ◌||◌, eqb, sym, refl, ap, ◌∙◌, arith}
-use Rattle.arithmetic.specs.SumFlags.{flags_after, is_set, FlagsLaw}
-use Rattle.flags.specs.Flags.{carry0, carry1, overflow, raised}
+use Rattle.arithmetic.specs.Flags.{raised, flags_after, is_set, FlagsLaw}
 use Rattle.std.proofs.lemmas.Nat.{or_shr, or_mod}
 use lib.Bits.{bit_or, or_zero_r}
 use mathlib.Core.Bool.{xor, or-false, and-true, and-false}
@@ -22,13 +21,13 @@ set-raised : (k : ℕ) (b : Bool) (flag f : ℕ) → is_set k (raised b flag f) 
 set-raised k true flag f = set-or k f flag
 set-raised k false flag f = sym (or-false (is_set k f))
 
-set_after : (k f : ℕ) (c0 c1 : Bool) → is_set k (flags_after f c0 c1) ≡ (is_set k f || (xor c0 c1 && is_set k overflow) || (c0 && is_set k carry0) || (c1 && is_set k carry1))
+set_after : (k f : ℕ) (c0 c1 : Bool) → is_set k (flags_after f c0 c1) ≡ (is_set k f || (xor c0 c1 && is_set k 0o400000) || (c0 && is_set k 0o200000) || (c1 && is_set k 0o100000))
 unfolding flags_after
 set_after k f c0 c1 =
-    let one = raised (xor c0 c1) overflow f in
-    let two = raised c0 carry0 one in
-    set-raised k c1 carry1 two
-    ∙ ap (λ s. s || (c1 && is_set k carry1)) (set-raised k c0 carry0 one ∙ ap (λ s. s || (c0 && is_set k carry0)) (set-raised k (xor c0 c1) overflow f))
+    let one = raised (xor c0 c1) 0o400000 f in
+    let two = raised c0 0o200000 one in
+    set-raised k c1 0o100000 two
+    ∙ ap (λ s. s || (c1 && is_set k 0o100000)) (set-raised k c0 0o200000 one ∙ ap (λ s. s || (c0 && is_set k 0o200000)) (set-raised k (xor c0 c1) 0o400000 f))
 
 low-raised : (b : Bool) (flag f : ℕ) → flag % 2 ^ 15 ≡ 0 → raised b flag f % 2 ^ 15 ≡ f % 2 ^ 15
 low-raised true flag f e = or_mod f flag 15 ∙ ap (bit_or (f % 2 ^ 15)) e ∙ or_zero_r (f % 2 ^ 15)
@@ -41,14 +40,14 @@ high-raised false flag f e = refl
 pub flags-law : (f : ℕ) (c0 c1 : Bool) → FlagsLaw f c0 c1 (flags_after f c0 c1)
 unfolding flags_after
 flags-law f c0 c1 =
-    let one = raised (xor c0 c1) overflow f in
-    let two = raised c0 carry0 one in
+    let one = raised (xor c0 c1) 0o400000 f in
+    let two = raised c0 0o200000 one in
     record {
-      overflowed = set_after 17 f c0 c1 ∙ simp (and-true, and-false, or-false);
-      carried-0 = set_after 16 f c0 c1 ∙ simp (and-true, and-false, or-false);
-      carried-1 = set_after 15 f c0 c1 ∙ simp (and-true, and-false, or-false);
-      below = low-raised c1 carry1 two refl ∙ low-raised c0 carry0 one refl ∙ low-raised (xor c0 c1) overflow f refl;
-      above = high-raised c1 carry1 two refl ∙ high-raised c0 carry0 one refl ∙ high-raised (xor c0 c1) overflow f refl;
+      overflow = set_after 17 f c0 c1 ∙ simp (and-true, and-false, or-false);
+      carry-0 = set_after 16 f c0 c1 ∙ simp (and-true, and-false, or-false);
+      carry-1 = set_after 15 f c0 c1 ∙ simp (and-true, and-false, or-false);
+      below = low-raised c1 0o100000 two refl ∙ low-raised c0 0o200000 one refl ∙ low-raised (xor c0 c1) 0o400000 f refl;
+      above = high-raised c1 0o100000 two refl ∙ high-raised c0 0o200000 one refl ∙ high-raised (xor c0 c1) 0o400000 f refl;
     }
 
 -- what has no bit above the flags stays so

@@ -3,8 +3,8 @@ use Rattle.std.proofs.Common.{◌≡◌, ℕ, ◌+◌, ◌-◌, ◌%◌, ◌^◌
 use Rattle.arithmetic.proofs.SignedLaws.{signed_reads}
 use Rattle.arithmetic.specs.Signed.{Representable}
 use Rattle.words.specs.Signed.{signed}
-use Rattle.arithmetic.specs.Sums.{add_words, one_if, StandsFor, SumLaw, DifferenceLaw, NegationLaw, NegationCarries, SuccessorLaw, PredecessorLaw}
-use Rattle.words.specs.Bits.{complement}
+use Rattle.arithmetic.specs.Sums.{add_words, bit, StandsFor, SumLaw, DifferenceLaw, NegationLaw, NegationCarries, SuccessorLaw, PredecessorLaw}
+use Rattle.words.specs.Bits.{complement as complement_of}
 use Rattle.std.proofs.lemmas.Bool.{true≢false, false≢true, leb-true, le-leb}
 use Rattle.std.proofs.lemmas.Bool.Decides.{nat_tests}
 use borrow.Author.Differences.{ints}
@@ -62,14 +62,14 @@ unfolding add_words
 sum_is x y true = refl
 sum_is x y false = refl
 
-stands : (z : ℤ) (x y : ℕ) (c : Bool) → signed x +ℤ signed y +ℤ pos (one_if c) ≡ z → StandsFor z (add_words x y c)
+stands : (z : ℤ) (x y : ℕ) (c : Bool) → signed x +ℤ signed y +ℤ pos (bit c) ≡ z → StandsFor z (add_words x y c)
 stands z x y c e = subst (λ (t : ℤ). StandsFor t (add_words x y c)) e (sum-law x y c)
 
-pub difference-law : (x y : ℕ) → DifferenceLaw x y (add_words x (complement y) true)
-difference-law x y = stands (signed x -ℤ signed y) x (complement y) true (omega (arith, ints, signed_reads y, signed_reads (complement y)))
+pub difference-law : (x y : ℕ) → DifferenceLaw x y (add_words x (complement_of y) true)
+difference-law x y = stands (signed x -ℤ signed y) x (complement_of y) true (omega (arith, ints, signed_reads y, signed_reads (complement_of y)))
 
-pub negation-law : (x : ℕ) → NegationLaw x (add_words (complement x) 1 false)
-negation-law x = stands (neg_ℤ (signed x)) (complement x) 1 false (omega (arith, ints, signed_reads x, signed_reads 1, signed_reads (complement x)))
+pub negation-law : (x : ℕ) → NegationLaw x (add_words (complement_of x) 1 false)
+negation-law x = stands (neg_ℤ (signed x)) (complement_of x) 1 false (omega (arith, ints, signed_reads x, signed_reads 1, signed_reads (complement_of x)))
 
 pub successor-law : (x : ℕ) → SuccessorLaw x (add_words x 1 false)
 successor-law x = stands (signed x +ℤ pos 1) x 1 false (omega (arith, ints, signed_reads 1))
@@ -78,7 +78,7 @@ pub predecessor-law : (x : ℕ) → PredecessorLaw x (add_words x (2 ^ 36 - 1) f
 predecessor-law x = stands (signed x -ℤ pos 1) x (2 ^ 36 - 1) false (omega (arith, ints, signed_reads (2 ^ 36 - 1)))
 
 abbrev low_of_negation : ℕ → ℕ
-low_of_negation x = complement x % 2 ^ 35 + 1 + 0
+low_of_negation x = complement_of x % 2 ^ 35 + 1 + 0
 
 zero-or-least : (x : ℕ) → 2 ^ 35 ≤ low_of_negation x → (signed x ≡ pos 0) ⊎ (signed x ≡ neg_ℤ (pos (2 ^ 35)))
 zero-or-least x h =
@@ -88,10 +88,10 @@ carry-1-of : (x : ℕ) → (signed x ≡ pos 0) ⊎ (signed x ≡ neg_ℤ (pos (
 carry-1-of x h =
     ⊎_elim (λ (e : signed x ≡ pos 0). omega (arith, ints, signed_reads x)) (λ (e : signed x ≡ neg_ℤ (pos (2 ^ 35))). omega (arith, ints, signed_reads x)) h
 
-pub negation-carries : (x : ℕ) → NegationCarries x (add_words (complement x) 1 false)
+pub negation-carries : (x : ℕ) → NegationCarries x (add_words (complement_of x) 1 false)
 unfolding add_words
 negation-carries x =
-    let whole = whole_sum (complement x) 1 0 in (
+    let whole = whole_sum (complement_of x) 1 0 in (
       (λ e. omega (arith, ints, signed_reads x, leb-true (2 ^ 36) whole e), λ e. le-leb (2 ^ 36) whole (omega (arith, ints, signed_reads x))),
       (λ e. zero-or-least x (leb-true (2 ^ 35) (low_of_negation x) e), λ e. le-leb (2 ^ 35) (low_of_negation x) (carry-1-of x e)),
     )

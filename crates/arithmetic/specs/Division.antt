@@ -13,12 +13,12 @@ abbrev pub signed_word : Bool → ℕ → ℕ
 signed_word negative m = cond negative ((2 ^ 36 - m) % 2 ^ 36) m
 
 -- magnitudes that are not divided: any by 0, and 2^35 by 1
-abbrev pub cannot_divide : ℕ → ℕ → Bool
-cannot_divide m n = n == 0 || (m == 2 ^ 35 && n == 1)
+abbrev pub no_divide : ℕ → ℕ → Bool
+no_divide m n = n == 0 || (m == 2 ^ 35 && n == 1)
 
 -- the division of the sign a and the magnitude m by the sign b and the magnitude n
 abbrev pub divided_by : Bool → ℕ → Bool → ℕ → Option Division
-divided_by a m b n = cond (cannot_divide m n) None (Some (record { quotient = signed_word (xor a b) (m / n); remainder = signed_word a (m % n) }))
+divided_by a m b n = cond (no_divide m n) None (Some (record { quotient = signed_word (xor a b) (m / n); remainder = signed_word a (m % n) }))
 
 unfoldable pub division_of : ℕ → ℕ → Option Division
 division_of x y = divided_by (is_negative x) (magnitude_of x) (is_negative y) (magnitude_of y)

@@ -1,5 +1,5 @@
 pub mod Condition
 pub mod Division
+pub mod Flags
 pub mod Signed
-pub mod SumFlags
 pub mod Sums

@@ -1,15 +1,14 @@
 -- Sums of words of 36 bits, with the carries out of bit 0 and out of bit 1.
-use Rattle.std.specs.Prelude.{◌≡◌, ℕ, ◌+◌, ◌-◌, ◌%◌, ◌^◌, Bool, cond, ◌⊎◌, ℤ, pos, ◌+ℤ◌, ◌-ℤ◌, neg_ℤ, ◌≤ℤ◌, ◌<ℤ◌, Decides, nat_le}
+use Rattle.std.specs.Prelude.{◌≡◌, ℕ, ◌+◌, ◌%◌, ◌^◌, Bool, cond, ◌⊎◌, ℤ, pos, ◌+ℤ◌, ◌-ℤ◌, neg_ℤ, ◌≤ℤ◌, ◌<ℤ◌, Decides, nat_le}
 use Rattle.arithmetic.specs.Signed.{Representable}
 use Rattle.words.specs.Signed.{signed}
 
--- a carry into the lowest bit, as the number that it adds
-abbrev pub one_if : Bool → ℕ
-one_if c = cond c 1 0
+abbrev pub bit : Bool → ℕ
+bit c = cond c 1 0
 
 -- the sum, the carry out of bit 0, and the carry out of bit 1
 unfoldable pub add_words : ℕ → ℕ → Bool → ℕ × Bool × Bool
-add_words x y c = ((x % 2 ^ 36 + y % 2 ^ 36 + one_if c) % 2 ^ 36, nat_le (2 ^ 36) (x % 2 ^ 36 + y % 2 ^ 36 + one_if c), nat_le (2 ^ 35) (x % 2 ^ 35 + y % 2 ^ 35 + one_if c))
+add_words x y c = ((x % 2 ^ 36 + y % 2 ^ 36 + bit c) % 2 ^ 36, nat_le (2 ^ 36) (x % 2 ^ 36 + y % 2 ^ 36 + bit c), nat_le (2 ^ 35) (x % 2 ^ 35 + y % 2 ^ 35 + bit c))
 
 -- The sum r with its carries stands for the true result z. The carries agree exactly when z is the signed value of some
 -- word, and the sum then has that value; otherwise the sum is 2^36 away from z.
@@ -21,7 +20,7 @@ pub record StandsFor (z : ℤ) (r : ℕ × Bool × Bool) : Type 0 where
   pub above : pos (2 ^ 35) ≤ℤ z → signed r.0 ≡ z -ℤ pos (2 ^ 36)
 
 abbrev pub SumLaw : ℕ → ℕ → Bool → ℕ × Bool × Bool → Type 0
-SumLaw x y c r = StandsFor (signed x +ℤ signed y +ℤ pos (one_if c)) r
+SumLaw x y c r = StandsFor (signed x +ℤ signed y +ℤ pos (bit c)) r
 
 abbrev pub DifferenceLaw : ℕ → ℕ → ℕ × Bool × Bool → Type 0
 DifferenceLaw x y r = StandsFor (signed x -ℤ signed y) r

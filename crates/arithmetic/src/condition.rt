@@ -1,9 +1,8 @@
-//! The conditions of comparisons.
-
 ghost use Rattle.arithmetic.specs.Condition.{biased_of, holds_of, condition_of, ComparisonLaw, CodeLaw};
 ghost use Rattle.std.specs.Prelude.{◌≡◌};
 
-use words::{SIGN_BIT, WORD_LIMIT};
+use crate::SIGN_BIT;
+use words::WORD_LIMIT;
 
 /// What a comparison asks of two signed words.
 #[derive(Clone, Copy, PartialEq, Eq, Debug)]

@@ -1,9 +1,9 @@
-//! Division.
-
 ghost use Rattle.std.specs.Prelude.{◌≡◌, ◌^◌, ◌<◌, ◌≤◌};
-ghost use Rattle.arithmetic.specs.Division.{division_of, magnitude_of, cannot_divide, signed_word, DivisionLaw, NarrowDivision};
+ghost use Rattle.arithmetic.specs.Division.{division_of, magnitude_of, no_divide, signed_word, DivisionLaw, NarrowDivision};
+ghost use Rattle.words.specs.Signed.{is_negative};
 
-use words::{SIGN_BIT, WORD_LIMIT, is_negative};
+use crate::SIGN_BIT;
+use words::WORD_LIMIT;
 
 /// What a division gives: two words, signed.
 #[derive(Clone, Copy, PartialEq, Eq, Debug)]
@@ -24,7 +24,7 @@ pub fn divide(dividend: u64, divisor: u64) -> Option<Division>
 {
     let whole = magnitude(dividend);
     let part = magnitude(divisor);
-    if cannot_divide(whole, part) {
+    if no_divide(whole, part) {
         return None;
     }
     let dividend_negative = is_negative(dividend);
@@ -36,10 +36,17 @@ pub fn divide(dividend: u64, divisor: u64) -> Option<Division>
 }
 
 /// Whether one magnitude is not divided by another.
-fn cannot_divide(whole: u64, part: u64) -> bool
-    ensures { result ≡ cannot_divide whole part }
+fn no_divide(whole: u64, part: u64) -> bool
+    ensures { result ≡ no_divide whole part }
 {
     part == 0 || whole == SIGN_BIT && part == 1
+}
+
+/// Whether bit 0 of a word is set.
+fn is_negative(word: u64) -> bool
+    ensures { result ≡ is_negative word }
+{
+    word % WORD_LIMIT >= SIGN_BIT
 }
 
 /// The signed value without its sign: at most 2^35.

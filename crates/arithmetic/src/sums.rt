@@ -1,10 +1,9 @@
-//! Sums of words, with their carries.
-
 ghost use Rattle.std.specs.Prelude.{◌≡◌, ◌-◌, ◌^◌, ◌<◌, true, false};
 ghost use Rattle.arithmetic.specs.Sums.{add_words, SumLaw, DifferenceLaw, NegationLaw, NegationCarries, SuccessorLaw, PredecessorLaw};
-ghost use Rattle.words.specs.Bits.{complement};
+ghost use Rattle.words.specs.Bits.{complement as complement_of};
 
-use words::{SIGN_BIT, WORD_LIMIT, complement};
+use crate::SIGN_BIT;
+use words::WORD_LIMIT;
 
 /// The sum of two words and a carry into the lowest bit, with the carry out of bit 0 and the carry out of bit 1.
 ///
@@ -23,7 +22,7 @@ pub fn add(x: u64, y: u64, carry: bool) -> (u64, bool, bool)
 
 /// `x` less `y`, with the carries: the sum of `x`, every bit of `y` turned, and 1.
 pub fn subtract(x: u64, y: u64) -> (u64, bool, bool)
-    ensures value { result ≡ add_words x (complement y) true }
+    ensures value { result ≡ add_words x (complement_of y) true }
     ensures narrow { result.0 < 2 ^ 36 }
     ensures law { DifferenceLaw x y result }
 {
@@ -32,7 +31,7 @@ pub fn subtract(x: u64, y: u64) -> (u64, bool, bool)
 
 /// The negative of `x`, with the carries: every bit turned, and 1 added.
 pub fn negate(x: u64) -> (u64, bool, bool)
-    ensures value { result ≡ add_words (complement x) 1 false }
+    ensures value { result ≡ add_words (complement_of x) 1 false }
     ensures narrow { result.0 < 2 ^ 36 }
     ensures law { NegationLaw x result }
     ensures carries { NegationCarries x result }
@@ -56,4 +55,11 @@ pub fn decrement(x: u64) -> (u64, bool, bool)
     ensures law { PredecessorLaw x result }
 {
     add(x, WORD_LIMIT - 1, false)
+}
+
+/// Every bit of a word turned.
+fn complement(word: u64) -> u64
+    ensures { result ≡ complement_of word }
+{
+    WORD_LIMIT - 1 - word % WORD_LIMIT
 }

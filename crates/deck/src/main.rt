@@ -10,6 +10,7 @@ use memory::Core;
 use operations::Status;
 use packed::PackedCore;
 use std::io::Read;
+use std::process::ExitCode;
 use stops::Stop;
 
 /// The bytes of a packed block of 1,024 words.
@@ -108,10 +109,13 @@ fn carry(rt: &HostRuntime) -> anyhow::Result<()> {
     run_deck(rt, &mut core, blocks, deck.as_slice())
 }
 
-fn main(rt: HostRuntime) -> anyhow::Result<()> {
-    let done = carry(&rt);
-    if let Err(error) = &done {
-        eprintln!(rt; "deck: {error}")?;
+fn main(rt: HostRuntime) -> ExitCode {
+    match carry(&rt) {
+        Ok(()) => ExitCode::SUCCESS,
+        Err(error) => {
+            // if this cannot be written either, the exit status still tells
+            let _ = eprintln!(rt; "deck: {error}");
+            ExitCode::FAILURE
+        }
     }
-    done
 }

@@ -1,6 +1,6 @@
 -- Words put at the start of a core one by one.
-use Rattle.std.proofs.Common.{◌≡◌, ℕ, ◌+◌, ◌^◌, ◌<◌, ◌≤◌, true, false, ◌&&◌, ltb, List, [], ◌∷◌, ◌++◌, length, get_or, take, drop, set, sym, refl, ap, ◌∙◌, arith}
-use Rattle.std.proofs.lemmas.List.{append_assoc, at_drop_more, drop_more, length-append, length-drop, length-take, length-take-le, set_at, take_all, take_more}
+use Rattle.std.proofs.Common.{◌≡◌, ℕ, ◌+◌, ◌<◌, ◌≤◌, List, [], ◌∷◌, ◌++◌, length, get_or, take, drop, set, sym, ap, ◌∙◌, arith}
+use Rattle.std.proofs.lemmas.List.{append_assoc, drop_more, length-append, length-drop, length-take, length-take-le, set_at, take_all, take_more}
 
 -- The first i words of ws are put over old, and the core's words are now.
 module _ (ws old now : List ℕ) (i : ℕ) (put : now ≡ take i ws ++ drop i old) where

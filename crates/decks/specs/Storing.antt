@@ -1,7 +1,7 @@
 -- Words that are put at the start of a core, over the list of its words.
 use Rattle.std.specs.Prelude.{◌≡◌, ℕ, ◌+◌, ◌<◌, ◌≤◌, Bool, true, false, cond, ◌&&◌, List, [], ◌∷◌, ◌++◌, length, take, drop, Ok, Err, Result, ◌==◌, nat_lt, slice_index}
-use Rattle.refusals.specs.Refusals.{number_of}
-use Rattle.refusals.specs.declared.refusal.Refusal.{Refusal}
+use Rattle.words.specs.Refusals.{number_of}
+use Rattle.words.specs.declared.refusal.Refusal.{Refusal}
 use Rattle.words.specs.Word.{are_words}
 
 -- ws are stored, and the core's words, before it old, are new: ws from address 0 on, and all else as it was.

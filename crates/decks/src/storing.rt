@@ -2,8 +2,7 @@ ghost use Rattle.decks.specs.Storing.{Stores, Begins, holds_at, agreeing};
 ghost use Rattle.std.specs.Prelude.{◌≡◌, length};
 
 use memory::Core;
-use refusals::Refusal;
-use words::all_words;
+use words::{Refusal, all_words};
 
 /// Puts `words[k]` at address k, for each k. It refuses before it writes anything, so that a core never
 /// holds a part of a program.

@@ -1,13 +1,13 @@
 use crate::{DeckError, DeckFault, count_equal, octal_digits, read_deck, store};
 use memory::PlainCore;
-use refusals::Refusal;
 use std::test::Fail;
+use words::Refusal;
 
 #[test]
 fn reads_words(rt: HostRuntime) -> Result<(), Fail> {
     let text = b"1 02 # two words\r\n\t777777777777\n# none\n0#17\n17";
     let deck = read_deck(rt.alloc(), text)?;
-    assert_eq!(rt; deck.as_slice(), &[1, 2, 0o777777777777, 0, 0o17]);
+    assert_eq!(rt; deck.as_slice(), [1, 2, 0o777777777777, 0, 0o17].as_slice());
     Ok(())
 }
 

@@ -1,3 +1,1 @@
-mod Answered
-pub mod Possible
 pub mod Pushdowns

@@ -1,8 +1,8 @@
 -- PUSH and then POP.
-use Rattle.std.proofs.Common.{◌≡◌, ℕ, ◌+◌, ◌-◌, ◌%◌, ◌^◌, ◌<◌, Some, sym, ap, ◌∙◌, arith}
+use Rattle.std.proofs.Common.{◌≡◌, ℕ, ◌%◌, ◌^◌, ◌<◌, Some, sym, ap, ◌∙◌, arith}
 use Rattle.instructions.specs.Effects.{effect_of}
 use Rattle.instructions.specs.Operands.{operand_at}
-use Rattle.results.specs.Pointers.{pointer_up, pointer_down}
+use Rattle.instructions.specs.Pointers.{pointer_up, pointer_down}
 use Rattle.instructions.specs.PushdownLaw.{PushThenPop}
 
 back : (w : ℕ) → w < 2 ^ 36 → pointer_down (pointer_up w) ≡ w

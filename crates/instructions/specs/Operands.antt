@@ -1,12 +1,12 @@
 -- The user address that each instruction reads as its operand, if it reads one. For most it is E; POP and POPJ read where the
 -- right half of A says, and JRA where the left half says.
 use Rattle.std.specs.Prelude.{ℕ, Some, None, Option}
-use Rattle.instructions.specs.Reads.{read_by_table}
-use Rattle.instructions.specs.Reads.{read_by_half_word}
-use Rattle.instructions.specs.Reads.{read_by_move_mode}
-use Rattle.instructions.specs.Reads.{read_by_mode}
-use Rattle.instructions.specs.Reads.{read_by_mask}
-use Rattle.words.specs.Halves.{left, right}
+use Rattle.instructions.specs.Booleans.{read_by_table}
+use Rattle.instructions.specs.HalfWords.{read_by_half_word}
+use Rattle.instructions.specs.Moves.{read_by_move_mode}
+use Rattle.instructions.specs.Results.{read_by_mode}
+use Rattle.instructions.specs.Tests.{read_by_mask}
+use Rattle.logic.specs.Halves.{left, right}
 use Rattle.operations.specs.declared.operation.Operation.{Operation}
 use Rattle.operations.specs.declared.operation.Operation.TheVariants.{MonitorCall, NotInstalled, Nothing, Move, Idiv, Shift, Jffo, Exch, Aobjp, Aobjn, Jrst, Jfcl, Pushj, Push, Pop, Popj, Jsr, Jsp, Jsa, Jra, Add, Sub, Cai, Cam, Jump, Skip, Aoj, Aos, Soj, Sos, Boolean, HalfWord, Test}
 

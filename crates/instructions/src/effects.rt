@@ -1,37 +1,38 @@
 //! What each instruction does.
 
-ghost use Rattle.std.specs.Prelude.{◌≡◌, ◌^◌, ◌<◌, Some, ◌≢◌};
+ghost use Rattle.std.specs.Prelude.{◌≡◌, ◌^◌, ◌<◌};
 ghost use Rattle.instructions.specs.Effects.{effect_of};
-ghost use Rattle.results.specs.Narrow.{NarrowEffect};
+ghost use Rattle.instructions.specs.Narrow.{NarrowEffect};
 ghost use Rattle.instructions.specs.PushdownLaw.{PushThenPop};
-ghost use Rattle.operations.specs.Possible.{Possible};
-ghost use Rattle.stops.specs.declared.stop.Stop.TheVariants.{StepsDone};
 
-use control::{
-    aobjn_effect, aobjp_effect, jfcl_effect, jra_effect, jrst_effect, jsa_effect, jsp_effect,
-    jsr_effect, monitor_call_effect, not_installed_effect, pop_effect, popj_effect, push_effect,
-    pushj_effect,
+use crate::bit_tests::test_effect;
+use crate::booleans::boolean_effect;
+use crate::calls::{monitor_call, not_installed};
+use crate::compares::{
+    aoj_effect, aos_effect, cai_effect, cam_effect, jump_effect, skip_effect, soj_effect,
+    sos_effect,
 };
-use data::{boolean_effect, exch_effect, half_word_effect, move_effect, test_effect};
-use numbers::{
-    add_effect, aoj_effect, aos_effect, cai_effect, cam_effect, idiv_effect, jffo_effect,
-    jump_effect, shift_effect, skip_effect, soj_effect, sos_effect, sub_effect,
-};
+use crate::division::idiv_effect;
+use crate::half_words::half_word_effect;
+use crate::jumps::{aobjn_effect, aobjp_effect, jfcl_effect, jrst_effect};
+use crate::moves::{exch_effect, move_effect};
+use crate::pushdown::{pop_effect, popj_effect, push_effect, pushj_effect};
+use crate::results::wordless;
+use crate::shifting::{jffo_effect, shift_effect};
+use crate::subroutines::{jra_effect, jsa_effect, jsp_effect, jsr_effect};
+use crate::sums::{add_effect, sub_effect};
 use operations::{Effect, Inputs, Operation, Status};
-use results::wordless;
 
 /// What an instruction does, where `status` is the status after it was fetched: its `pc` is already the address of the
 /// next instruction.
 pub fn effect_of(op: Operation, given: Inputs, status: Status) -> Effect
     ensures value { result ≡ effect_of op given status }
     ensures narrow { given.ac < 2 ^ 36 → given.next < 2 ^ 36 → given.operand < 2 ^ 36 → given.e < 2 ^ 18 → NarrowEffect result }
-    ensures possible { Possible status → given.e < 2 ^ 18 → Possible result.status }
-    ensures never_steps_done { result.stop ≢ Some StepsDone }
     ensures push_then_pop { PushThenPop }
 {
     match op {
-        Operation::MonitorCall => monitor_call_effect(given, status),
-        Operation::NotInstalled => not_installed_effect(given, status),
+        Operation::MonitorCall => monitor_call(given, status),
+        Operation::NotInstalled => not_installed(given, status),
         Operation::Nothing => wordless(status),
         Operation::Move(form, mode) => move_effect(form, mode, given, status),
         Operation::Idiv(mode) => idiv_effect(mode, given, status),

@@ -2,8 +2,27 @@
 
 #![tactic(auto)]
 
+mod bit_tests;
+mod booleans;
+mod calls;
+mod compares;
+mod division;
 mod effects;
+mod half_words;
+mod jumps;
+mod moves;
 mod operands;
+mod pointers;
+mod pushdown;
+mod results;
+mod shifting;
+mod subroutines;
+mod sums;
 
 pub use effects::effect_of;
 pub use operands::operand_address;
+
+/// One more than the greatest address.
+const ADDRESS_LIMIT: u64 = 1 << 18;
+/// Bit 0 of a word, which is set in a negative number.
+const SIGN_BIT: u64 = 1 << 35;

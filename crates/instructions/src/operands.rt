@@ -1,16 +1,15 @@
 //! The user address that an instruction reads as its operand.
 
-ghost use Rattle.instructions.specs.Reads.{read_by_table, without_operand};
-ghost use Rattle.instructions.specs.Reads.{read_by_half_word, read_to_keep};
-ghost use Rattle.instructions.specs.Reads.{read_by_move_mode};
+ghost use Rattle.instructions.specs.Booleans.{read_by_table, without_operand};
+ghost use Rattle.instructions.specs.HalfWords.{read_by_half_word, read_to_keep};
+ghost use Rattle.instructions.specs.Moves.{read_by_move_mode};
 ghost use Rattle.instructions.specs.Operands.{operand_at};
-ghost use Rattle.instructions.specs.Reads.{read_by_mode};
-ghost use Rattle.instructions.specs.Reads.{read_by_mask};
+ghost use Rattle.instructions.specs.Results.{read_by_mode};
+ghost use Rattle.instructions.specs.Tests.{read_by_mask};
 ghost use Rattle.std.specs.Prelude.{◌≡◌};
 
-use logic::{HalfMove, Other};
+use logic::{HalfMove, Other, left, right};
 use operations::{MaskFrom, Mode, MoveMode, Operation};
-use words::{left, right};
 
 /// The user address that an instruction reads as its operand, if it reads one.
 pub fn operand_address(op: Operation, e: u64, ac: u64) -> Option<u64>

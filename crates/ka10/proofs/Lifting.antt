@@ -1,77 +1,125 @@
--- From the bytes of a program's memory to the core that they lie in.
-use Rattle.std.proofs.Common.{◌≡◌, ℕ, ◌+◌, ◌-◌, ◌*◌, ◌/◌, ◌≤◌, List, ◌++◌, length, take, drop, sym, ap, ◌∙◌, subst, arith}
-use Rattle.extent.specs.Extents.{program-words}
-use Rattle.ka10.specs.Calls.{lent, outcome, memory_of, Left, Done}
+-- From the bytes of a block to the core that it lies in.
+use Rattle.std.proofs.Common.{◌≡◌, ℕ, ◌+◌, ◌-◌, ◌*◌, ◌<◌, ◌≤◌, List, ◌++◌, length, get_or, take, drop, sym, ap, ◌∙◌, subst, arith, take-add}
+use Rattle.operations.specs.declared.effect.Status.{Status}
+use Rattle.ka10.proofs.Blocks.{unpack-take, unpack-drop}
+use Rattle.ka10.specs.Calls.{lent, outcome, record_after, Done}
 use Rattle.ka10.specs.declared.records.Record.{Record}
-use Rattle.memory.specs.Cut.{length_cut}
-use Rattle.packed.proofs.Parts.{words-of-part}
+use Rattle.machine.specs.Steps.{machine, run_of, Replied, replied}
+use Rattle.machine.specs.User.{user_of}
+use Rattle.memory.specs.Cut.{cut, length_cut}
 use Rattle.packed.specs.Layout.{unpack}
 use Rattle.packed.specs.Words.{packed_words, length-unpack}
-use Rattle.std.proofs.lemmas.List.{drop_at, length-append, length-drop, length-take, length-take-le, take_at}
+use Rattle.std.proofs.lemmas.List.{drop_at, ext_get_or, get_or-drop, get_or-take, length-append, length-drop, length-take, length-take-le, take-append-le, take_at, take-take}
 use Rattle.std.proofs.lemmas.Slice.{drop-put_mid}
 use borrow.Rule.Slice.PartMut.{put_mid}
 
--- the bytes of a program's memory: 4,608 hold a block, and 72 the lowest sixteen words
-abbrev memory_bytes : List ℕ → ℕ → ℕ → List ℕ
-memory_bytes core base blocks = take (4608 * blocks - 72) (drop (4608 * base + 72) core)
+-- the bytes of a block
+abbrev pub block_of : List ℕ → ℕ → ℕ → List ℕ
+block_of core base blocks = take (4608 * blocks) (drop (4608 * base) core)
 
--- they hold the program's words
-memory-words : (core : List ℕ) (base blocks : ℕ) → 1 ≤ blocks → 1024 * (base + blocks) ≤ length (packed_words core) → packed_words (memory_bytes core base blocks) ≡ memory_of base blocks core
-memory-words core base blocks some inside =
-    let a : 4608 * blocks - 72 ≡ 9 * (512 * blocks - 8) = omega arith in
-    let b : 4608 * base + 72 ≡ 9 * (512 * base + 8) = omega arith in
-    let d : 2 * (512 * blocks - 8) ≡ 1024 * blocks - 16 = omega arith in
-    let e : 2 * (512 * base + 8) ≡ 1024 * base + 16 = omega arith in
-    rw (a, b) (words-of-part core (512 * base + 8) (512 * blocks - 8) (omega arith) ∙ ap (λ n. take n (drop (2 * (512 * base + 8)) (packed_words core))) d ∙ ap (λ n. take (1024 * blocks - 16) (drop n (packed_words core))) e ∙ sym (program-words base blocks (packed_words core)))
+-- they hold the block's words
+unpack-block : (core : List ℕ) (base blocks : ℕ) → unpack (block_of core base blocks) ≡ take (1024 * blocks) (drop (1024 * base) (unpack core))
+unpack-block core base blocks =
+    let b : 4608 * blocks ≡ 9 * (512 * blocks) = omega arith in
+    let a : 4608 * base ≡ 9 * (512 * base) = omega arith in
+    let c : 2 * (512 * blocks) ≡ 1024 * blocks = omega arith in
+    let d : 2 * (512 * base) ≡ 1024 * base = omega arith in
+    ap (λ n. unpack (take n (drop (4608 * base) core))) b
+    ∙ unpack-take (drop (4608 * base) core) (512 * blocks)
+    ∙ ap (λ n. take (2 * (512 * blocks)) (unpack (drop n core))) a
+    ∙ ap (take (2 * (512 * blocks))) (unpack-drop core (512 * base))
+    ∙ ap (λ n. take n (drop (2 * (512 * base)) (unpack core))) c
+    ∙ ap (λ n. take (1024 * blocks) (drop n (unpack core))) d
 
--- a core, and the core after a program's memory in it has come to hold other bytes
-module _ (core memory' : List ℕ) (base blocks : ℕ) (some : 1 ≤ blocks) (inside : 1024 * (base + blocks) ≤ length (packed_words core)) where
+-- a part of a list, by way of a longer part that holds it
+same-part : (ws : List ℕ) (m n : ℕ) → m + n ≤ length ws → m + n ≤ 262144 → take (n - 16) (drop (m + 16) (cut ws)) ≡ take (n - 16) (drop 16 (cut (take n (drop m ws))))
+unfolding cut
+same-part ws m n in' top =
+    ext_get_or 0 _ _
+    (omega (arith, length-take (n - 16) (drop (m + 16) (take 262144 ws)), length-drop (m + 16) (take 262144 ws), length-take 262144 ws, length-take (n - 16) (drop 16 (take 262144 (take n (drop m ws)))), length-drop 16 (take 262144 (take n (drop m ws))), length-take 262144 (take n (drop m ws)), length-take n (drop m ws), length-drop m ws))
+    (λ k l.
+    let less : k < n - 16 = omega (arith, length-take (n - 16) (drop (m + 16) (take 262144 ws))) in
+    let e : m + 16 + k ≡ m + (16 + k) = omega arith in
+    get_or-take (n - 16) (drop (m + 16) (take 262144 ws)) k 0 less
+    ∙ get_or-drop (m + 16) (take 262144 ws) k 0
+    ∙ get_or-take 262144 ws (m + 16 + k) 0 (omega arith)
+    ∙ ap (λ i. get_or ws i 0) e
+    ∙ sym (get_or-take (n - 16) (drop 16 (take 262144 (take n (drop m ws)))) k 0 less
+    ∙ get_or-drop 16 (take 262144 (take n (drop m ws))) k 0
+    ∙ get_or-take 262144 (take n (drop m ws)) (16 + k) 0 (omega arith)
+    ∙ get_or-take n (drop m ws) (16 + k) 0 (omega arith)
+    ∙ get_or-drop m ws (16 + k) 0))
+
+-- a program sees the same words in its block alone
+pub user-in-block : (accumulators core : List ℕ) (base blocks : ℕ) → 1024 * (base + blocks) ≤ length (packed_words core) → user_of accumulators base blocks (packed_words core) ≡ user_of accumulators 0 blocks (packed_words (block_of core base blocks))
+unfolding user_of
+user-in-block accumulators core base blocks l =
+    let in' : 1024 * base + 1024 * blocks ≤ length (unpack core) = omega (arith, length_cut (unpack core)) in
+    let top : 1024 * base + 1024 * blocks ≤ 262144 = omega (arith, length_cut (unpack core)) in
+    ap (λ (t : List ℕ). accumulators ++ t) (same-part (unpack core) (1024 * base) (1024 * blocks) in' top
+    ∙ ap (λ (t : List ℕ). take (1024 * blocks - 16) (drop 16 (cut t))) (sym (unpack-block core base blocks)))
+
+-- a block that has its words in a core has its bytes there
+pub block_within : (core : List ℕ) (base blocks : ℕ) → 1024 * (base + blocks) ≤ length (packed_words core) → (4608 * (base + blocks) ≤ length core) × (base + blocks ≤ 256)
+block_within core base blocks inside = (omega (arith, length_cut (unpack core), length-unpack core), omega (arith, length_cut (unpack core)))
+
+-- a block of a core, and the core after that block has come to hold other bytes
+module _ (core block' : List ℕ) (base blocks : ℕ) (inside : 1024 * (base + blocks) ≤ length (packed_words core)) (some : 1 ≤ blocks) (as_long : length block' ≡ 4608 * blocks) where
+  abbrev core' : List ℕ
+  core' = put_mid (4608 * base) (4608 * blocks) core block'
+
   long : 4608 * (base + blocks) ≤ length core
-  long = omega (arith, length_cut (unpack core), length-unpack core)
+  long = (block_within core base blocks inside).0
 
-  module _ (as_long : length memory' ≡ 4608 * blocks - 72) where
-    abbrev core' : List ℕ
-    core' = put_mid (4608 * base + 72) (4608 * blocks - 72) core memory'
+  front : length (take (4608 * base) core) ≡ 4608 * base
+  front = length-take-le (4608 * base) core (omega (arith, long))
 
-    front : length (take (4608 * base + 72) core) ≡ 4608 * base + 72
-    front = length-take-le (4608 * base + 72) core (omega (arith, long))
+  back : drop (4608 * base) core' ≡ block' ++ drop (4608 * blocks) (drop (4608 * base) core)
+  back = drop_at (take (4608 * base) core) _ (4608 * base) front
 
-    back : drop (4608 * base + 72) core' ≡ memory' ++ drop (4608 * blocks - 72) (drop (4608 * base + 72) core)
-    back = drop_at (take (4608 * base + 72) core) _ (4608 * base + 72) front
+  block-then : block_of core' base blocks ≡ block'
+  block-then = ap (take (4608 * blocks)) back ∙ take_at block' _ (4608 * blocks) as_long
 
-    memory-then : memory_bytes core' base blocks ≡ memory'
-    memory-then = ap (take (4608 * blocks - 72)) back ∙ take_at memory' _ (4608 * blocks - 72) as_long
+  as-long-then : length core' ≡ length core
+  as-long-then =
+      omega (arith, long, front, length-append (take (4608 * base) core) (block' ++ drop (4608 * blocks) (drop (4608 * base) core)), length-append block' (drop (4608 * blocks) (drop (4608 * base) core)), length-drop (4608 * blocks) (drop (4608 * base) core), length-drop (4608 * base) core)
 
-    as-long-then : length core' ≡ length core
-    as-long-then =
-        omega (arith, long, front, length-append (take (4608 * base + 72) core) (memory' ++ drop (4608 * blocks - 72) (drop (4608 * base + 72) core)), length-append memory' (drop (4608 * blocks - 72) (drop (4608 * base + 72) core)), length-drop (4608 * blocks - 72) (drop (4608 * base + 72) core), length-drop (4608 * base + 72) core)
+  inside-then : 1024 * (base + blocks) ≤ length (packed_words core')
+  inside-then = omega (arith, as-long-then, length_cut (unpack core), length-unpack core, length_cut (unpack core'), length-unpack core')
 
-    inside-then : 1024 * (base + blocks) ≤ length (packed_words core')
-    inside-then = omega (arith, as-long-then, length_cut (unpack core), length-unpack core, length_cut (unpack core'), length-unpack core')
+  below-kept : take 72 block' ≡ take 72 (block_of core base blocks) → take (4608 * base + 72) core' ≡ take (4608 * base + 72) core
+  below-kept lowest =
+      let rest = drop (4608 * blocks) (drop (4608 * base) core) in
+      let then : take 72 (drop (4608 * base) core') ≡ take 72 (drop (4608 * base) core) =
+      ap (take 72) back ∙ take-append-le 72 block' rest (omega arith) ∙ lowest ∙ take-take 72 (4608 * blocks) (drop (4608 * base) core) (omega arith) in
+      take-add (4608 * base) 72 core'
+      ∙ ap (λ (t : List ℕ). t ++ take 72 (drop (4608 * base) core')) (take_at (take (4608 * base) core) _ (4608 * base) front)
+      ∙ ap (λ (t : List ℕ). take (4608 * base) core ++ t) then
+      ∙ sym (take-add (4608 * base) 72 core)
 
-    below-kept : take (4608 * base + 72) core' ≡ take (4608 * base + 72) core
-    below-kept = take_at (take (4608 * base + 72) core) _ (4608 * base + 72) front
+  above_kept : drop (4608 * (base + blocks)) core' ≡ drop (4608 * (base + blocks)) core
+  above_kept = drop-put_mid (4608 * base) (4608 * blocks) core block' (4608 * (base + blocks)) (omega arith) (omega (arith, long)) as_long
 
-    above_kept : drop (4608 * (base + blocks)) core' ≡ drop (4608 * (base + blocks)) core
-    above_kept = drop-put_mid (4608 * base + 72) (4608 * blocks - 72) core memory' (4608 * (base + blocks)) (omega arith) (omega (arith, long)) as_long
+  done-in-whole : (p : Record) (steps : ℕ) (program program' reply reply' : List ℕ) → Done 0 blocks p (outcome p 0 blocks steps (block_of core base blocks)) (lent (block_of core base blocks) program reply) (lent block' program' reply') → Done base blocks p (outcome p base blocks steps core) (lent core program reply) (lent core' program' reply')
+  done-in-whole p steps program program' reply reply' h =
+      let status : Status = record { pc = p.pc; flags = p.flags } in
+      let out = outcome p 0 blocks steps (block_of core base blocks) in
+      let same : out ≡ outcome p base blocks steps core = ap (λ (u : List ℕ). replied (run_of steps (machine u status))) (sym (user-in-block p.accumulators core base blocks inside)) in
+      subst (λ (o : Replied). Done base blocks p o (lent core program reply) (lent core' program' reply')) same
+      (record {
+        reply = h.reply;
+        program = h.program;
+        again = h.again;
+        user =
+            user-in-block (record_after p out).accumulators core' base blocks inside-then
+            ∙ ap (λ (b : List ℕ). user_of (record_after p out).accumulators 0 blocks (packed_words b)) block-then
+            ∙ h.user;
+        below = below-kept h.below;
+        above = above_kept;
+      })
 
-    done-so : (p : Record) (steps : ℕ) (program program' reply reply' : List ℕ) → Left p (outcome p steps (packed_words (memory_bytes core base blocks))) (packed_words memory') program' reply' → Done base blocks p (outcome p steps (memory_of base blocks core)) (lent core program reply) (lent core' program' reply')
-    done-so p steps program program' reply reply' h =
-        let before = memory-words core base blocks some inside in
-        let after : packed_words memory' ≡ memory_of base blocks core' = ap packed_words (sym memory-then) ∙ memory-words core' base blocks some inside-then in
-        record {
-          left = subst (λ (vs : List ℕ). Left p (outcome p steps (memory_of base blocks core)) vs program' reply') after (subst (λ (ws : List ℕ). Left p (outcome p steps ws) (packed_words memory') program' reply') before h);
-          below = below-kept;
-          above = above_kept;
-          as_long = as-long-then;
-        }
-
-  -- the same where the code has computed the first byte and the one past the last
-  pub done-in-core : (start end : ℕ) → start ≡ (1024 * base + 16) / 2 * 9 → end ≡ 1024 * (base + blocks) / 2 * 9 → length memory' ≡ end - start → (p : Record) (steps : ℕ) (program program' reply reply' : List ℕ) → Left p (outcome p steps (packed_words (take (end - start) (drop start core)))) (packed_words memory') program' reply' → Done base blocks p (outcome p steps (memory_of base blocks core)) (lent core program reply) (lent (put_mid start (end - start) core memory') program' reply')
-  done-in-core start end s t as_long p steps program program' reply reply' h =
-      let a : start ≡ 4608 * base + 72 = omega arith in
-      let b : end - start ≡ 4608 * blocks - 72 = omega arith in
-      let h' = subst (λ n. Left p (outcome p steps (packed_words (take n (drop (4608 * base + 72) core)))) (packed_words memory') program' reply') b (subst (λ n. Left p (outcome p steps (packed_words (take (end - start) (drop n core)))) (packed_words memory') program' reply') a h) in
-      let whole = done-so (omega arith) p steps program program' reply reply' h' in
-      subst (λ n. Done base blocks p (outcome p steps (memory_of base blocks core)) (lent core program reply) (lent (put_mid n (end - start) core memory') program' reply')) (sym a)
-      (subst (λ n. Done base blocks p (outcome p steps (memory_of base blocks core)) (lent core program reply) (lent (put_mid (4608 * base + 72) n core memory') program' reply')) (sym b) whole)
+  -- what a run in the block leaves is what a run in the core leaves; n is the block's length as the code computes it
+  pub done-in-core : (p : Record) (steps : ℕ) (program program' reply reply' : List ℕ) (n : ℕ) → n ≡ 4608 * blocks → Done 0 blocks p (outcome p 0 blocks steps (take n (drop (4608 * base) core))) (lent (take n (drop (4608 * base) core)) program reply) (lent block' program' reply') → Done base blocks p (outcome p base blocks steps core) (lent core program reply) (lent (put_mid (4608 * base) n core block') program' reply')
+  done-in-core p steps program program' reply reply' n e =
+      subst (λ k. Done 0 blocks p (outcome p 0 blocks steps (take k (drop (4608 * base) core))) (lent (take k (drop (4608 * base) core)) program reply) (lent block' program' reply') → Done base blocks p (outcome p base blocks steps core) (lent core program reply) (lent (put_mid (4608 * base) k core block') program' reply'))
+      (sym e) (done-in-whole p steps program program' reply reply')

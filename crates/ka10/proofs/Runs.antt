@@ -1,36 +1,52 @@
--- What a run leaves in the program's memory, in its record and in the reply.
-use Rattle.std.proofs.Common.{◌≡◌, ℕ, ◌+◌, true, List, length, take, sym, ap, ◌∙◌, subst}
-use Rattle.ka10.specs.Calls.{Left, record_after, reply_bytes}
-use Rattle.ka10.specs.Records.{record_of, record_bytes, possible_record}
-use Rattle.ka10.specs.declared.records.Record.{Record}
-use Rattle.machine.specs.Steps.{machine, Replied, replied_with}
-use Rattle.machine.specs.User.{user_of}
+-- A run in the bytes of a block alone.
+use Rattle.std.proofs.Common.{◌≡◌, ℕ, zero, suc, ◌+◌, ◌-◌, ◌*◌, ◌≤◌, List, length, take, drop, Some, None, Option, sym, ap, ◌∙◌, subst, arith}
 use Rattle.operations.specs.declared.effect.Status.{Status}
-use Rattle.std.proofs.lemmas.List.{take_at}
+use Rattle.ka10.specs.Calls.{Lent, Done, reply_bytes}
+use Rattle.ka10.specs.Records.{record_of, record_bytes}
+use Rattle.ka10.specs.declared.records.Record.{Record}
+use Rattle.machine.specs.Steps.{Machine, machine, Replied, ran, run_of, step_of, goes_on}
+use Rattle.machine.specs.User.{user, user_of}
+use Rattle.machine.specs.declared.space.Space.{Space}
+use Rattle.packed.specs.Words.{packed_words}
+use Rattle.std.proofs.lemmas.List.{drop_all, take_at}
+use Rattle.std.proofs.lemmas.Bool.{cond_both}
+use Rattle.stops.specs.Stops.{step_counts}
 use Rattle.stops.specs.declared.stop.Stop.{Stop}
 
--- the user words begin with the accumulators
-user-front : (accumulators ws : List ℕ) → length accumulators ≡ 16 → take 16 (user_of accumulators ws) ≡ accumulators
-unfolding user_of
-user-front accumulators ws h = take_at accumulators ws 16 h
+-- a run does no more steps than it is asked for
+goes-within : (t : Option Stop) (x : Machine) (n : ℕ) → (run_of n x).steps ≤ n → (goes_on t x (run_of n)).steps ≤ suc n
+goes-within None x n h = omega arith
+goes-within (Some t) x n h = cond_both (step_counts t) 1 0 (λ k. k ≤ suc n) (λ _. omega arith) (λ _. omega arith)
 
-module _ (p : Record) (accumulators vs bytes told : List ℕ) (s : Status) (d : ℕ) (t : Stop) (sixteen : length accumulators ≡ 16) where
+pub run-within : (n : ℕ) (m : Machine) → (run_of n m).steps ≤ n
+unfolding run_of
+run-within zero m = omega arith
+run-within (suc n) m = goes-within (step_of m).stop (step_of m).after n (run-within n (step_of m).after)
+
+-- the user words begin with the accumulators
+user-front : (accumulators : List ℕ) (base blocks : ℕ) (ws : List ℕ) → length accumulators ≡ 16 → take 16 (user_of accumulators base blocks ws) ≡ accumulators
+unfolding user_of
+user-front accumulators base blocks ws h = take_at accumulators (take (1024 * blocks - 16) (drop (1024 * base + 16) ws)) 16 h
+
+module _ (p : Record) (blocks : ℕ) (before after : Lent) (space : Space) (s : Status) (d : ℕ) (t : Stop) (sixteen : length space.accumulators ≡ 16) (at-0 : space.base ≡ 0) (same_blocks : space.blocks ≡ blocks) where
   abbrev ends : Replied
-  ends = replied_with (machine (user_of accumulators vs) s) d t
+  ends = ran (machine (user space (packed_words after.core)) s) d t
 
   -- the record with these accumulators
   abbrev with-words : List ℕ → Record
   with-words a = record { accumulators = a; pc = s.pc; flags = s.flags; count = p.count + d; allowance = p.allowance }
 
-  -- a run ended so, and this was written
-  pub left_so : (out : Replied) → ends ≡ out → told ≡ reply_bytes ends → bytes ≡ record_bytes (with-words accumulators) → record_of bytes ≡ with-words accumulators → possible_record (with-words accumulators) ≡ true → Left p out vs bytes told
-  left_so out e reply program again possible =
-      let front = user-front accumulators vs sixteen in
-      subst (λ (o : Replied). Left p o vs bytes told) e
+  -- what a run in a block leaves: this space and this status are the program's then, and d steps are done
+  pub done-in-block : (out : Replied) → ends ≡ out → length before.core ≡ 4608 * blocks → length after.core ≡ 4608 * blocks → after.reply ≡ reply_bytes ends → after.program ≡ record_bytes (with-words space.accumulators) → record_of after.program ≡ with-words space.accumulators → take 72 after.core ≡ take 72 before.core → Done 0 blocks p out before after
+  done-in-block out e lb la reply program again lowest =
+      let ws = packed_words after.core in
+      let front = user-front space.accumulators space.base space.blocks ws sixteen in
+      subst (λ (o : Replied). Done 0 blocks p o before after) e
       (record {
         reply = reply;
         program = program ∙ ap (λ (a : List ℕ). record_bytes (with-words a)) (sym front);
         again = again ∙ ap with-words (sym front);
-        possible = ap possible_record again ∙ possible;
-        user = ap (λ (a : List ℕ). user_of a vs) front;
+        user = ap (λ (a : List ℕ). user_of a 0 blocks ws) front ∙ ap (λ b. user_of space.accumulators b blocks ws) (sym at-0) ∙ ap (λ n. user_of space.accumulators space.base n ws) (sym same_blocks);
+        below = lowest;
+        above = drop_all (4608 * (0 + blocks)) after.core (omega arith) ∙ sym (drop_all (4608 * (0 + blocks)) before.core (omega arith));
       })

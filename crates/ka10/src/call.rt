@@ -1,17 +1,25 @@
-//! The call from C.
-
-ghost use Rattle.std.specs.Prelude.{◌≡◌, ℕ};
 ghost use Rattle.ka10.specs.Calls.{lent, RunsByBytes};
 ghost use Rattle.ka10.specs.Numbers.{ReadAsWritten};
+ghost use Rattle.packed.specs.Words.{packed_words};
+ghost use Rattle.std.specs.Prelude.{◌≡◌, length};
 
 use crate::admission::admit;
-use crate::finding::find_place;
 use crate::program::run_in_core;
+use memory::Core;
+use packed::PackedCore;
+
+/// How many words a packed core has.
+fn word_count(bytes: &mut [u8]) -> u64
+    ensures count { result ≡ length (packed_words bytes.old) }
+    ensures same { bytes.new ≡ bytes.old }
+{
+    let core = PackedCore { bytes };
+    core.len()
+}
 
 /// Runs one program by bytes: up to `steps` steps of the program that `record` holds, in its place in the packed
 /// core, with what came of it in `reply`. The result is 0, or the number of the refusal, and then nothing has changed.
-#[unsafe(no_mangle)]
-pub extern "C" fn ka10_run(
+pub fn ka10_run(
     core: &mut [u8],
     base: u64,
     blocks: u64,
@@ -22,15 +30,46 @@ pub extern "C" fn ka10_run(
     ensures runs { RunsByBytes base blocks steps (lent core.old «record».old reply.old) (lent core.new «record».new reply.new) result }
     ensures read_as_written { ReadAsWritten }
 {
-    let extent = match find_place(core, base, blocks) {
-        Ok(extent) => extent,
-        Err(refusal) => return refusal.number() as u32,
-    };
-    match admit(steps, record, reply.len()) {
+    let words = word_count(core);
+    match admit(words, base, blocks, steps, record, reply.len()) {
         Err(refusal) => refusal.number() as u32,
         Ok(given) => {
-            run_in_core(core, extent, steps, &given, record, reply);
+            run_in_core(core, base, blocks, steps, &given, record, reply);
             0
         }
+    }
+}
+
+#[cfg(test)]
+mod tests {
+    use super::*;
+
+    // The least refusal comes first, and nothing is written.
+    #[test]
+    fn a_core_of_one_pair_is_refused(rt: HostRuntime) {
+        let mut core = [7; 9];
+        let mut record = [0; 160];
+        let mut reply = [9; 24];
+        assert_eq!(rt; ka10_run(&mut core, 0, 0, 0, &mut record, &mut reply), 1);
+        assert_eq!(rt; core, [7; 9]);
+        assert_eq!(rt; reply, [9; 24]);
+    }
+
+    // An XCT in accumulator 0 of itself: the 65th executed word is stop 5, and its step does not count.
+    #[test]
+    fn an_endless_chain_of_executed_words_stops(rt: HostRuntime) {
+        let mut core = [0; 4608];
+        let mut record = [0; 160];
+        record[3] = 5;
+        record[4] = 0x70;
+        record[142] = 0x10;
+        record[159] = 2;
+        let mut reply = [9; 24];
+        assert_eq!(rt; ka10_run(&mut core, 0, 1, 3, &mut record, &mut reply), 12);
+        assert_eq!(rt; reply[15], 9);
+        assert_eq!(rt; ka10_run(&mut core, 0, 1, 2, &mut record, &mut reply), 0);
+        assert_eq!(rt; reply[7], 0);
+        assert_eq!(rt; reply[15], 5);
+        assert_eq!(rt; record[151], 0);
     }
 }

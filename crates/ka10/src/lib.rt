@@ -3,8 +3,8 @@
 #![tactic(auto)]
 
 mod admission;
+mod block;
 mod call;
-mod finding;
 mod numbers;
 mod program;
 mod reading;

@@ -1,13 +1,18 @@
-//! A record, read from its bytes and written to them.
-
 ghost use Rattle.ka10.specs.Numbers.{numbers};
-ghost use Rattle.ka10.specs.Records.{record_of, record_bytes, possible_record};
+ghost use Rattle.ka10.specs.Records.{record_of, record_bytes, good_flags, good_record};
 ghost use Rattle.std.specs.Prelude.{◌≡◌, length, take};
 
 use crate::numbers::{number_at, write_numbers};
 use crate::records::Record;
-use flags::possible_flags;
-use words::{HALF_LIMIT, all_words};
+use words::all_words;
+
+/// Overflow, Carry 0, Carry 1, Floating Overflow, Byte Interrupt, User, Floating Underflow and No Divide.
+const LISTED_FLAGS: u64 = 0o770140;
+
+/// The flag that every program of a user has.
+const USER: u64 = 0o010000;
+
+const PC_LIMIT: u64 = 1 << 18;
 
 const MOST_ALLOWANCE: u64 = 1_000_000_000_000;
 
@@ -50,13 +55,20 @@ pub(crate) fn write_record(new: &Record, bytes: &mut [u8])
     );
 }
 
+/// Whether all flags are listed ones, and User is on.
+fn good_flags(flags: u64) -> bool
+    ensures { result ≡ good_flags flags }
+{
+    flags & LISTED_FLAGS == flags && flags & USER == USER
+}
+
 /// Whether a program can be so.
-pub(crate) fn possible_record(given: &Record) -> bool
-    ensures { result ≡ possible_record given.now }
+pub(crate) fn good_record(given: &Record) -> bool
+    ensures { result ≡ good_record given.now }
 {
     all_words(&given.accumulators)
-        && given.pc < HALF_LIMIT
-        && possible_flags(given.flags)
+        && given.pc < PC_LIMIT
+        && good_flags(given.flags)
         && given.count <= given.allowance
         && given.allowance <= MOST_ALLOWANCE
 }

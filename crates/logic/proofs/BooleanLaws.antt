@@ -1,6 +1,6 @@
 -- The sixteen functions meet their truth tables.
 use Rattle.std.proofs.Common.{◌≡◌, ℕ, ◌+◌, ◌-◌, ◌*◌, ◌%◌, ◌^◌, ◌<◌, get_or, sym, refl, ap, ◌∙◌, subst, arith, below_none, below_more}
-use Rattle.words.proofs.BitLaws.{Bitwise, bit_below, both, differing, each-pair, either, first, none, other, other-first, other-second, second}
+use Rattle.logic.proofs.BitLaws.{Bitwise, bit_below, both, differing, each-pair, either, first, none, other, other-first, other-second, second}
 use Rattle.words.specs.Bits.{bit}
 use Rattle.logic.specs.Boolean.{ByTable, boolean_of, sixteen}
 use lib.Bits.{bit_and, bit_or, bit_xor}

@@ -1,6 +1,6 @@
 -- What a half-word move brings where.
 use Rattle.std.proofs.Common.{◌≡◌, ℕ, ◌-◌, ◌*◌, ◌%◌, ◌^◌, ◌<◌, sym, refl, ap, ◌∙◌, subst, mod-eq_of_lt, arith, below_none, below_more}
-use Rattle.words.proofs.BitLaws.{bit_below, ones_bit, zeros-bit}
+use Rattle.logic.proofs.BitLaws.{bit_below, ones_bit, zeros-bit}
 use Rattle.words.specs.Bits.{bit}
 use Rattle.logic.specs.HalfMoves.{Moves, half, moved_half, opposite, placed, rest, rest_bit}
 use Rattle.logic.specs.declared.half_words.Half.{Half}

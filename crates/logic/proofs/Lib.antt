@@ -1,3 +1,4 @@
+pub mod BitLaws
 pub mod BooleanLaws
 pub mod HalfMoveLaws
 pub mod MaskLaws

@@ -1,6 +1,6 @@
 -- What the test instructions do to single bits.
 use Rattle.std.proofs.Common.{◌≡◌, ℕ, ◌-◌, ◌^◌, ◌<◌, Bool, eqb, Decides, sym, refl, ap, ◌∙◌, subst, arith}
-use Rattle.words.proofs.BitLaws.{Bitwise, bit_below, both, differing, each-pair, either, first, no_bits, other-second, second, zeros-bit}
+use Rattle.logic.proofs.BitLaws.{Bitwise, bit_below, both, differing, each-pair, either, first, no_bits, other-second, second, zeros-bit}
 use Rattle.words.specs.Bits.{bit, word}
 use Rattle.logic.specs.Masks.{Changes, MaskedZero, Skips, changed_bit, changed_by, skips_when}
 use Rattle.logic.specs.declared.masks.Change.{Change}

@@ -2,7 +2,7 @@
 use Rattle.std.specs.Prelude.{◌≡◌, ℕ, ◌-◌, ◌*◌, ◌/◌, ◌%◌, ◌^◌, ◌<◌, cond, ◌==◌}
 use Rattle.words.specs.Bits.{bit}
 use Rattle.logic.specs.Codes.{pick}
-use Rattle.words.specs.Halves.{halves, left, right}
+use Rattle.logic.specs.Halves.{halves, left, right}
 use Rattle.logic.specs.declared.half_words.Half.{Half}
 use Rattle.logic.specs.declared.half_words.Half.TheVariants.{Left, Right}
 use Rattle.logic.specs.declared.half_words.HalfMove.{HalfMove}

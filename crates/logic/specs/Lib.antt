@@ -1,4 +1,5 @@
 pub mod Boolean
 pub mod Codes
 pub mod HalfMoves
+pub mod Halves
 pub mod Masks

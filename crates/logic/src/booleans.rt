@@ -1,9 +1,10 @@
 //! The sixteen Boolean functions.
 
 ghost use Rattle.std.specs.Prelude.{◌≡◌, ◌^◌, ◌<◌};
+ghost use Rattle.words.specs.Bits.{complement};
 ghost use Rattle.logic.specs.Boolean.{ByTable, boolean_of};
 
-use words::{WORD_LIMIT, complement};
+use words::WORD_LIMIT;
 
 /// The Boolean function of the operand and the accumulator that `table` names by its truth table: of the table's four
 /// bits the highest is the result where both bits are 0, the next where only the accumulator's is 1, then where only
@@ -35,4 +36,11 @@ pub fn boolean(table: u64, operand: u64, ac: u64) -> u64
         14 => not_a | not_m,
         _ => WORD_LIMIT - 1,
     }
+}
+
+/// The other of each of the low 36 bits.
+pub(crate) fn complement(w: u64) -> u64
+    ensures { result ≡ complement w }
+{
+    WORD_LIMIT - 1 - w % WORD_LIMIT
 }

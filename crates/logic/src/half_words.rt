@@ -3,7 +3,7 @@
 ghost use Rattle.std.specs.Prelude.{◌≡◌, ◌^◌, ◌<◌};
 ghost use Rattle.logic.specs.HalfMoves.{Moves, half, half_move_of, moved_half, opposite, rest};
 
-use words::{HALF_LIMIT, from_halves, left, right};
+use crate::halves::{HALF_LIMIT, from_halves, left, right};
 
 /// A half of a word.
 #[derive(Clone, Copy, PartialEq, Eq, Debug)]

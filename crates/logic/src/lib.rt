@@ -1,4 +1,4 @@
-//! Boolean functions, half-word moves and test modifications of the PDP-10 (KA10) on 36-bit words.
+//! Halves, Boolean functions, half-word moves and test modifications of the PDP-10 (KA10) on 36-bit words.
 //!
 //! Every function takes any `u64` and works on its low 36 bits; every word that it gives is below 2^36.
 
@@ -6,8 +6,13 @@
 
 mod booleans;
 mod half_words;
+mod halves;
 mod masks;
 
 pub use booleans::boolean;
 pub use half_words::{Half, HalfMove, Other, half_move_of, move_half};
+pub use halves::{from_halves, left, right, swap};
 pub use masks::{Change, SkipWhen, change_of, changed, skip_when_of, skips};
+
+#[cfg(test)]
+mod tests;

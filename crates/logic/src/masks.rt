@@ -3,7 +3,8 @@
 ghost use Rattle.std.specs.Prelude.{◌≡◌, ◌^◌, ◌<◌, Decides};
 ghost use Rattle.logic.specs.Masks.{Changes, Skips, change_of, changed_by, skip_when_of, skips_when};
 
-use words::{WORD_LIMIT, complement};
+use crate::booleans::complement;
+use words::WORD_LIMIT;
 
 /// What becomes of the masked bits of the accumulator.
 #[derive(Clone, Copy, PartialEq, Eq, Debug)]

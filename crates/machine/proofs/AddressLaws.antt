@@ -1,5 +1,5 @@
 -- The search for an effective address, word by word.
-use Rattle.std.proofs.Common.{◌≡◌, ℕ, zero, suc, ◌-◌, true, false, List, Some, None, Ok, Err, Option, sym, refl, ap, ◌∙◌, arith}
+use Rattle.std.proofs.Common.{◌≡◌, ℕ, zero, suc, ◌-◌, true, false, List, Some, Ok, Err, Option, sym, refl, ap, ◌∙◌, arith}
 use Rattle.operations.specs.Fields.{direct}
 use Rattle.machine.specs.Address.{word_address, located, effective}
 use Rattle.machine.specs.Endings.{and_then}

@@ -1,7 +1,7 @@
 -- The parts of an executed word, in their order.
-use Rattle.std.proofs.Common.{◌≡◌, ℕ, zero, suc, ◌+◌, ◌-◌, ◌/◌, ◌%◌, ◌^◌, ◌<◌, ◌≤◌, List, length, get_or, set, Some, None, Ok, Err, Option, Result, sym, refl, ap, ◌∙◌, arith}
+use Rattle.std.proofs.Common.{◌≡◌, ℕ, zero, suc, ◌+◌, ◌-◌, ◌/◌, ◌%◌, ◌^◌, ◌≤◌, List, length, get_or, set, Some, None, Ok, Err, Option, Result, refl, ap, ◌∙◌, arith}
 use Rattle.operations.specs.Fields.{accumulator}
-use Rattle.words.specs.Halves.{right}
+use Rattle.logic.specs.Halves.{right}
 use Rattle.instructions.specs.Effects.{effect_of}
 use Rattle.instructions.specs.Operands.{operand_at}
 use Rattle.operations.specs.Decode.{decoded}
@@ -11,12 +11,11 @@ use Rattle.operations.specs.declared.operation.Instruction.{Instruction}
 use Rattle.operations.specs.declared.operation.Instruction.TheVariants.{UserCall, Execute, BlockTransfer, Ordinary}
 use Rattle.operations.specs.declared.operation.Operation.{Operation}
 use Rattle.machine.specs.Address.{effective}
-use Rattle.machine.specs.Endings.{Ended, ended, onward}
+use Rattle.machine.specs.Endings.{ended, onward}
 use Rattle.machine.specs.Execution.{operand_from, setting, storable, storing, applied, call_word, inputs, performed, moved, carried_out, one_word, executed}
 use Rattle.machine.specs.Transfer.{transferred, words_moved}
 use Rattle.machine.specs.User.{fetched, stored}
 use Rattle.machine.specs.declared.address.Located.{Located}
-use Rattle.machine.specs.declared.next.Next.{Next}
 use Rattle.machine.specs.declared.next.Next.TheVariants.{Done, At}
 use Rattle.std.proofs.lemmas.List.{set_past}
 use Rattle.std.proofs.lemmas.Bool.Decides.{nat_tests}

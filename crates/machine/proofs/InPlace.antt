@@ -1,7 +1,7 @@
 -- XCT does what the word at its address does.
-use Rattle.std.proofs.Common.{◌≡◌, ℕ, zero, suc, ◌+◌, ◌/◌, ◌%◌, ◌^◌, List, get_or, None, Ok, Err, Option, Result, sym, refl, ap, ◌∙◌}
+use Rattle.std.proofs.Common.{◌≡◌, ℕ, zero, suc, ◌+◌, ◌/◌, ◌%◌, ◌^◌, List, get_or, None, Ok, Err, Option, Result, refl, ap, ◌∙◌}
 use Rattle.operations.specs.Fields.{accumulator}
-use Rattle.words.specs.Halves.{right}
+use Rattle.logic.specs.Halves.{right}
 use Rattle.instructions.specs.Effects.{effect_of}
 use Rattle.instructions.specs.Operands.{operand_at}
 use Rattle.operations.specs.Decode.{decoded}

@@ -1,9 +1,8 @@
 -- A step by its ways out, and a run step by step.
 use Rattle.std.proofs.Common.{◌≡◌, ℕ, zero, suc, ◌+◌, ◌-◌, ◌%◌, ◌^◌, ◌<◌, ◌≤◌, Bool, true, false, cond, List, Some, None, Ok, Err, Option, sym, refl, ap, ◌∙◌, add-zero, add_assoc, zero-add, arith}
 use Rattle.operations.specs.declared.effect.Status.{Status}
-use Rattle.machine.specs.Endings.{ended}
 use Rattle.machine.specs.Execution.{executed}
-use Rattle.machine.specs.Steps.{Machine, machine, Stepped, stepped, settled, advanced, step_of, Ran, ran, later, counted, goes_on, run_of, and_on, RunSplits}
+use Rattle.machine.specs.Steps.{Machine, machine, Stepped, stepped, settled, step_of, Ran, went, later, counted, goes_on, run_of, and_on, RunSplits}
 use Rattle.machine.specs.User.{fetched}
 use Rattle.stops.specs.declared.stop.Stop.{Stop}
 use mir.Val.{bool_byte}
@@ -23,17 +22,12 @@ pub byte-cond : (b : Bool) → bool_byte b ≡ cond b 1 0
 byte-cond true = refl
 byte-cond false = refl
 
--- at most one step more
-pub within-one : (b : Bool) (n d most : ℕ) → d < most → n ≡ bool_byte b → d + n ≤ most
-within-one true n d most l e = omega (arith, e)
-within-one false n d most l e = omega (arith, e)
-
 -- the parts of a run
 later-zero : (r : Ran) → later 0 r ≡ r
-later-zero r = ap (λ d. ran r.after d r.stop) (zero-add r.steps)
+later-zero r = ap (λ d. went r.after d r.stop) (zero-add r.steps)
 
 later-later : (a b : ℕ) (r : Ran) → later a (later b r) ≡ later (a + b) r
-later-later a b r = ap (λ d. ran r.after d r.stop) (sym (add_assoc a b r.steps))
+later-later a b r = ap (λ d. went r.after d r.stop) (sym (add_assoc a b r.steps))
 
 pub run-begins : (n : ℕ) (m : Machine) → later 0 (run_of n m) ≡ run_of n m
 run-begins n m = later-zero (run_of n m)
@@ -47,18 +41,18 @@ module _ (whole : Ran) (n d : ℕ) (m : Machine) (so_far : later d (run_of (n - 
       let one : run_of (suc (n - (d + 1))) m ≡ later 1 (run_of (n - (d + 1)) x) = ap (λ (s : Stepped). goes_on s.stop s.after (run_of (n - (d + 1)))) (sym h) in
       sym (later-later d 1 (run_of (n - (d + 1)) x)) ∙ ap (later d) (sym one) ∙ ap (λ k. later d (run_of k m)) (sym e) ∙ so_far
 
-  pub run-stops : (x : Machine) (t : Stop) → d < n → stepped x (Some t) ≡ step_of m → ran x (d + counted t) (Some t) ≡ whole
+  pub run-stops : (x : Machine) (t : Stop) → d < n → stepped x (Some t) ≡ step_of m → went x (d + counted t) (Some t) ≡ whole
   unfolding run_of
   run-stops x t l h =
       let e : n - d ≡ suc (n - (d + 1)) = omega arith in
-      let one : run_of (suc (n - (d + 1))) m ≡ ran x (counted t) (Some t) = ap (λ (s : Stepped). goes_on s.stop s.after (run_of (n - (d + 1)))) (sym h) in
+      let one : run_of (suc (n - (d + 1))) m ≡ went x (counted t) (Some t) = ap (λ (s : Stepped). goes_on s.stop s.after (run_of (n - (d + 1)))) (sym h) in
       ap (later d) (sym one) ∙ ap (λ k. later d (run_of k m)) (sym e) ∙ so_far
 
-  pub run_ends : n ≤ d → ran m d None ≡ whole
+  pub run_ends : n ≤ d → went m d None ≡ whole
   unfolding run_of
   run_ends l =
       let e : n - d ≡ 0 = omega arith in
-      ap (λ k. ran m k None) (sym (add-zero d)) ∙ ap (λ k. later d (run_of k m)) (sym e) ∙ so_far
+      ap (λ k. went m k None) (sym (add-zero d)) ∙ ap (λ k. later d (run_of k m)) (sym e) ∙ so_far
 
 -- splitting a run
 later-and_on : (t : Option Stop) (k : ℕ) (r : Ran) (n : ℕ) → later k (and_on t r n) ≡ and_on t (later k r) n

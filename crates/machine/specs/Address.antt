@@ -1,7 +1,7 @@
 -- The effective address.
-use Rattle.std.specs.Prelude.{ℕ, zero, suc, ◌+◌, ◌%◌, ◌^◌, cond, List, Some, None, Ok, Err, Option, Result, ◌==◌, slice_index}
+use Rattle.std.specs.Prelude.{ℕ, zero, suc, ◌+◌, ◌%◌, ◌^◌, cond, List, Some, Ok, Err, Option, Result, ◌==◌, slice_index}
 use Rattle.operations.specs.Fields.{index, direct}
-use Rattle.words.specs.Halves.{right}
+use Rattle.logic.specs.Halves.{right}
 use Rattle.machine.specs.Endings.{and_then}
 use Rattle.machine.specs.User.{fetched}
 use Rattle.machine.specs.declared.address.Located.{Located}

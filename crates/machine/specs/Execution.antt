@@ -1,7 +1,7 @@
 -- An executed word: what it does to the user words and to the status.
 use Rattle.std.specs.Prelude.{ℕ, zero, suc, ◌+◌, ◌*◌, ◌/◌, ◌%◌, ◌^◌, List, Some, None, Ok, Err, Option, Result, slice_index, slice_set}
 use Rattle.operations.specs.Fields.{accumulator}
-use Rattle.words.specs.Halves.{right}
+use Rattle.logic.specs.Halves.{right}
 use Rattle.instructions.specs.Effects.{effect_of}
 use Rattle.instructions.specs.Operands.{operand_at}
 use Rattle.operations.specs.Decode.{decoded}

@@ -1,10 +1,10 @@
 -- A step, and a run of steps.
-use Rattle.std.specs.Prelude.{◌≡◌, ℕ, zero, suc, ◌+◌, ◌%◌, ◌^◌, Bool, cond, List, Some, None, Ok, Err, Option, Result}
+use Rattle.std.specs.Prelude.{◌≡◌, ℕ, zero, suc, ◌+◌, ◌%◌, ◌^◌, cond, List, Some, None, Ok, Err, Option, Result}
 use Rattle.operations.specs.declared.effect.Status.{Status}
 use Rattle.machine.specs.Endings.{Ended}
 use Rattle.machine.specs.Execution.{executed}
 use Rattle.machine.specs.User.{user, fetched}
-use Rattle.machine.specs.declared.program.Program.{Program}
+use Rattle.machine.specs.declared.place.Place.{Place}
 use Rattle.stops.specs.Stops.{step_counts}
 use Rattle.stops.specs.declared.stop.Stop.{Stop}
 use Rattle.stops.specs.declared.stop.Stop.TheVariants.{StepsDone}
@@ -16,9 +16,9 @@ pub record Machine : Type 0 where
 abbrev pub machine : List ℕ → Status → Machine
 machine u s = record { user = u; status = s }
 
--- the machine that a program and the core's words stand for
-abbrev pub state : Program → List ℕ → Machine
-state p ws = machine (user p.accumulators ws) p.status
+-- the machine that a place and the core's words stand for
+abbrev pub state : Place → List ℕ → Machine
+state p ws = machine (user p.space ws) p.status
 
 -- a step: the machine after it, and a stop if it made one
 pub record Stepped : Type 0 where
@@ -58,12 +58,12 @@ pub record Ran : Type 0 where
   pub steps : ℕ
   pub stop : Option Stop
 
-abbrev pub ran : Machine → ℕ → Option Stop → Ran
-ran m d t = record { after = m; steps = d; stop = t }
+abbrev pub went : Machine → ℕ → Option Stop → Ran
+went m d t = record { after = m; steps = d; stop = t }
 
 -- the same with k steps done before it
 abbrev pub later : ℕ → Ran → Ran
-later k r = ran r.after (k + r.steps) r.stop
+later k r = went r.after (k + r.steps) r.stop
 
 -- a step that stops the program counts or does not
 abbrev pub counted : Stop → ℕ
@@ -71,11 +71,11 @@ counted t = cond (step_counts t) 1 0
 
 abbrev pub goes_on : Option Stop → Machine → (Machine → Ran) → Ran
 goes_on None m go = later 1 (go m)
-goes_on (Some t) m go = ran m (counted t) (Some t)
+goes_on (Some t) m go = went m (counted t) (Some t)
 
 -- the step rule repeated n times, unless a step stops the program
 unfoldable pub run_of : ℕ → Machine → Ran
-run_of zero m = ran m 0 None
+run_of zero m = went m 0 None
 run_of (suc n) m = goes_on (step_of m).stop (step_of m).after (run_of n)
 
 -- what a run replies: stop 0 where no step made one
@@ -84,15 +84,15 @@ pub record Replied : Type 0 where
   pub steps : ℕ
   pub stop : Stop
 
-abbrev pub replied_with : Machine → ℕ → Stop → Replied
-replied_with m d t = record { after = m; steps = d; stop = t }
+abbrev pub ran : Machine → ℕ → Stop → Replied
+ran m d t = record { after = m; steps = d; stop = t }
 
 abbrev pub replied_stop : Option Stop → Stop
 replied_stop None = StepsDone
 replied_stop (Some t) = t
 
 abbrev pub replied : Ran → Replied
-replied r = replied_with r.after r.steps (replied_stop r.stop)
+replied r = ran r.after r.steps (replied_stop r.stop)
 
 -- a run, and then a run of n more if no step stopped the first
 abbrev pub and_on : Option Stop → Ran → ℕ → Ran

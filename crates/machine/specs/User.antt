@@ -1,15 +1,15 @@
--- What a program sees: sixteen accumulators, and then the words of its core.
-use Rattle.std.specs.Prelude.{ℕ, cond, List, ◌++◌, length, Ok, Err, Result, nat_lt, slice_index}
-use Rattle.machine.specs.declared.accumulators.Accumulators.{Accumulators}
+-- What a program sees of its place: sixteen accumulators, and then the words of its block from the seventeenth on.
+use Rattle.std.specs.Prelude.{◌≡◌, ℕ, ◌+◌, ◌-◌, ◌*◌, cond, List, ◌++◌, length, take, drop, Ok, Err, Result, nat_lt, slice_index}
+use Rattle.machine.specs.declared.space.Space.{Space}
 use Rattle.stops.specs.declared.stop.Stop.{Stop}
 use Rattle.stops.specs.declared.stop.Stop.TheVariants.{IllegalAddress}
 
--- the user words, by user address, over a core of words ws
-unfoldable pub user_of : List ℕ → List ℕ → List ℕ
-user_of accumulators ws = accumulators ++ ws
+-- the user words, by user address, of a block of so many times 1,024 words in a core of words ws
+unfoldable pub user_of : List ℕ → ℕ → ℕ → List ℕ → List ℕ
+user_of accumulators base blocks ws = accumulators ++ take (1024 * blocks - 16) (drop (1024 * base + 16) ws)
 
-abbrev pub user : Accumulators → List ℕ → List ℕ
-user p ws = user_of p.words ws
+abbrev pub user : Space → List ℕ → List ℕ
+user p ws = user_of p.accumulators p.base p.blocks ws
 
 -- reading user address a
 abbrev pub fetched : List ℕ → ℕ → Result ℕ Stop
@@ -18,3 +18,11 @@ fetched u a = cond (nat_lt a (length u)) (Ok (slice_index u a)) (Err (IllegalAdd
 -- whether a word may be stored at user address a
 abbrev pub stored : List ℕ → ℕ → Result (Unit {0}) Stop
 stored u a = cond (nat_lt a (length u)) (Ok tt) (Err (IllegalAddress a))
+
+-- what no program changes: where its block lies, and each word of the core that is not the program's
+pub record Kept (p : Space) (ws : List ℕ) (q : Space) (vs : List ℕ) : Type 0 where
+  pub base : q.base ≡ p.base
+  pub blocks : q.blocks ≡ p.blocks
+  pub count : length vs ≡ length ws
+  pub below : take (1024 * p.base + 16) vs ≡ take (1024 * p.base + 16) ws
+  pub above : drop (1024 * (p.base + p.blocks)) vs ≡ drop (1024 * (p.base + p.blocks)) ws

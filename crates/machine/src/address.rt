@@ -2,15 +2,16 @@ ghost use Rattle.std.specs.Prelude.{◌≡◌, ℕ, ◌^◌, ◌<◌, List, IfOk
 ghost use Rattle.machine.specs.Address.{word_address, located, effective};
 ghost use Rattle.machine.specs.User.{user};
 
-use crate::accumulators::Accumulators;
 use crate::reference::read;
+use crate::space::Space;
 use memory::Core;
 use operations::{index, is_direct};
 use stops::Stop;
-use words::HALF_LIMIT;
 
 /// How many address words one calculation may fetch.
 const ADDRESS_WORDS: u64 = 64;
+
+const HALF: u64 = 1 << 18;
 
 /// Where an address calculation ended: the effective address, and the word that JRST takes flags from, if
 /// the last level had one.
@@ -21,22 +22,22 @@ pub struct Located {
 }
 
 /// What one word gives; `last` is the word itself if it was fetched as an address word.
-fn locate(accumulators: &Accumulators, last: Option<u64>, word: u64) -> Located
-    ensures value { (ws : List ℕ) → result ≡ located last (user accumulators.now ws) word }
-    ensures address { (ws : List ℕ) → result.address ≡ word_address (user accumulators.now ws) word }
+fn locate(space: &Space, last: Option<u64>, word: u64) -> Located
+    ensures value { (ws : List ℕ) → result ≡ located last (user space.now ws) word }
+    ensures address { (ws : List ℕ) → result.address ≡ word_address (user space.now ws) word }
     ensures narrow { result.address < 2 ^ 18 }
 {
     let register = index(word);
-    let own = word % HALF_LIMIT;
+    let own = word % HALF;
     if register == 0 {
         Located {
             address: own,
             flag_word: last,
         }
     } else {
-        let added = accumulators.words[register as usize];
+        let added = space.accumulators[register as usize];
         Located {
-            address: (own + added % HALF_LIMIT) % HALF_LIMIT,
+            address: (own + added % HALF) % HALF,
             flag_word: Some(added),
         }
     }
@@ -45,17 +46,17 @@ fn locate(accumulators: &Accumulators, last: Option<u64>, word: u64) -> Located
 /// The effective address of a word.
 pub(crate) fn effective_address<C: Core>(
     core: &C,
-    accumulators: &Accumulators,
+    space: &Space,
     word: u64,
 ) -> Result<Located, Stop>
-    ensures value { result ≡ effective 64 None (user accumulators.now (C.words core.now)) word }
+    ensures value { result ≡ effective 64 None (user space.now (C.words core.now)) word }
     ensures narrow { IfOk result (λ l. l.address < 2 ^ 18) }
 {
     let mut budget = ADDRESS_WORDS;
     let mut last = None;
     let mut at = word;
     let found = loop {
-        let here = locate(accumulators, last, at);
+        let here = locate(space, last, at);
         if is_direct(at) {
             break here;
         }
@@ -63,7 +64,7 @@ pub(crate) fn effective_address<C: Core>(
             return Err(Stop::AddressWords);
         }
         budget -= 1;
-        at = read(core, accumulators, here.address)?;
+        at = read(core, space, here.address)?;
         last = Some(at);
     };
     Ok(found)

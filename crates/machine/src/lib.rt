@@ -2,18 +2,17 @@
 
 #![tactic(auto)]
 
-mod accumulators;
 mod address;
 mod execute;
 mod next;
 mod perform;
-mod program;
+mod place;
 mod reference;
+mod space;
 mod special;
 mod stepping;
 mod transfer;
 
-pub use accumulators::Accumulators;
-pub use program::Program;
-pub use reference::ACCUMULATORS;
+pub use place::Place;
+pub use space::Space;
 pub use stepping::{Reply, run, step};

@@ -1,7 +1,7 @@
 -- What a core answers and does, over the list of its words.
 use Rattle.std.specs.Prelude.{◌≡◌, ℕ, ◌^◌, ◌<◌, ◌≤◌, List, length, Ok, Err, Result, slice_index, slice_set}
-use Rattle.refusals.specs.Refusals.{number_of}
-use Rattle.refusals.specs.declared.refusal.Refusal.{Refusal}
+use Rattle.words.specs.Refusals.{number_of}
+use Rattle.words.specs.declared.refusal.Refusal.{Refusal}
 
 -- a read at a: the word there, and refusal 13 exactly where there is none
 abbrev pub Reads : List ℕ → ℕ → Result ℕ Refusal → Type 0

@@ -1,5 +1,5 @@
 -- The words of a plain core: the low 36 bits of each number.
-use Rattle.std.specs.Prelude.{◌≡◌, ℕ, ◌%◌, ◌^◌, ◌<◌, ◌≤◌, List, map, length, set, slice_index, slice_set}
+use Rattle.std.specs.Prelude.{◌≡◌, ℕ, ◌%◌, ◌^◌, ◌<◌, List, map, length, set, slice_index, slice_set}
 use Rattle.memory.specs.Cut.{cut, over, narrow_cut}
 use Rattle.std.proofs.lemmas.List.{length-map, get_or-map, map-set}
 use Rattle.words.specs.Word.{Narrow, narrow_within}

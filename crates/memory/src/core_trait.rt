@@ -1,10 +1,11 @@
-//! What every core does.
-
 ghost use Rattle.std.specs.Prelude.{◌≡◌, ℕ, ◌≤◌, List, length};
 ghost use Rattle.memory.specs.Access.{Reads, Writes};
 ghost use Rattle.words.specs.Word.{Narrow};
 
-use refusals::Refusal;
+use words::Refusal;
+
+/// No core has an address from here on.
+pub const CORE_LIMIT: u64 = 262144;
 
 /// A memory of 36-bit words. Its meaning is a list of words, by address, whose length never changes.
 pub trait Core {

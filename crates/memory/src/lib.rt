@@ -5,8 +5,6 @@
 
 mod core_trait;
 mod plain;
-mod sizes;
 
-pub use core_trait::Core;
+pub use core_trait::{CORE_LIMIT, Core};
 pub use plain::PlainCore;
-pub use sizes::{BLOCK, CORE_LIMIT};

@@ -1,15 +1,11 @@
-//! The core over numbers of 64 bits.
-
 ghost use Rattle.memory.specs.Access.{Writes};
 ghost use Rattle.memory.specs.Cut.{short_cut};
 ghost use Rattle.memory.specs.Plain.{lows, plain_words, plain_rest, narrow-lows};
 ghost use Rattle.std.specs.Prelude.{◌≡◌, ℕ, List, is_ok, if◌then◌else◌, slice_set};
 ghost use Rattle.std.specs.Borrow.{GName};
 
-use crate::core_trait::Core;
-use crate::sizes::CORE_LIMIT;
-use refusals::Refusal;
-use words::WORD_LIMIT;
+use crate::core_trait::{CORE_LIMIT, Core};
+use words::{Refusal, WORD_LIMIT};
 
 /// A core over lent numbers of 64 bits. A word is the low 36 bits of its number.
 #[derive(Drop)]

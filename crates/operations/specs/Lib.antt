@@ -1,3 +1,2 @@
 pub mod Decode
 pub mod Fields
-pub mod Possible

@@ -1,5 +1,3 @@
-//! What an instruction is given, and what it does.
-
 use stops::Stop;
 
 /// Where a program is, and its flags, a left half.

@@ -17,7 +17,7 @@ pub fn accumulator(word: u64) -> u64
     word / (1 << 23) % 16
 }
 
-/// Whether the address is the effective one as it stands, and not the address of a word to take it from.
+/// Whether the address is the effective one as it stands, and not the place of a word to take it from.
 pub fn is_direct(word: u64) -> bool
     ensures { result ≡ direct word }
 {

@@ -8,6 +8,8 @@ mod effect;
 mod fields;
 mod modes;
 mod operation;
+#[cfg(test)]
+mod tests;
 
 pub use decoding::decode;
 pub use effect::{Effect, Inputs, Status};

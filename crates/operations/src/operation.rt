@@ -1,5 +1,3 @@
-//! The instructions, apart from the codes that name them.
-
 use arithmetic::Condition;
 use logic::{Change, HalfMove, SkipWhen};
 

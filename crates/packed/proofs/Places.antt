@@ -1,5 +1,5 @@
 -- Where a word lies among the bytes: what reading it gives, and what putting it there changes.
-use Rattle.std.proofs.Common.{◌≡◌, ℕ, zero, suc, ◌+◌, ◌*◌, ◌/◌, ◌%◌, ◌^◌, ◌<◌, ◌≤◌, min, cond, eqb, List, [], ◌∷◌, length, get_or, drop, set, sym, refl, ap, ◌∙◌, ⊎_elim, arith}
+use Rattle.std.proofs.Common.{◌≡◌, ℕ, zero, suc, ◌+◌, ◌*◌, ◌/◌, ◌%◌, ◌^◌, ◌<◌, min, eqb, List, ◌∷◌, length, get_or, drop, set, refl, ap, ◌∙◌, ⊎_elim, arith}
 use Rattle.memory.specs.Cut.{cut, length_cut}
 use Rattle.packed.specs.Layout.{even, odd, unpack, put_even, put_odd, put_word}
 use Rattle.packed.specs.Nines.{by-nines}

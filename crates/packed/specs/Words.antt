@@ -1,5 +1,5 @@
 -- The words of a packed core, and what it leaves over.
-use Rattle.std.specs.Prelude.{◌≡◌, ℕ, zero, suc, ◌+◌, ◌*◌, ◌/◌, ◌%◌, ◌^◌, ◌<◌, ◌≤◌, min, List, [], ◌∷◌, length, get_or, drop, refl}
+use Rattle.std.specs.Prelude.{◌≡◌, ℕ, zero, suc, ◌*◌, ◌/◌, ◌^◌, ◌<◌, min, List, [], ◌∷◌, length, drop, refl}
 use Rattle.memory.specs.Cut.{cut, narrow_cut}
 use Rattle.packed.specs.Layout.{even, odd, unpack}
 use Rattle.packed.specs.Nines.{by-nines}

@@ -7,8 +7,7 @@ ghost use Rattle.std.specs.Borrow.{GName};
 
 use crate::layout::{get_word, put_word};
 use memory::{CORE_LIMIT, Core};
-use refusals::Refusal;
-use words::WORD_LIMIT;
+use words::{Refusal, WORD_LIMIT};
 
 /// A core over lent bytes, two words in nine.
 #[derive(Drop)]

@@ -1,11 +1,11 @@
 -- Reading and writing either part of an interleaved core.
-use Rattle.std.proofs.Common.{◌≡◌, ℕ, zero, suc, ◌+◌, ◌*◌, ◌/◌, ◌%◌, ◌<◌, ◌≤◌, min, List, [], ◌∷◌, length, get_or, drop, set, Result, refl, ap, ◌∙◌, arith}
+use Rattle.std.proofs.Common.{◌≡◌, ℕ, zero, suc, ◌+◌, ◌*◌, ◌/◌, ◌%◌, ◌<◌, min, List, [], ◌∷◌, length, get_or, set, Result, refl, ap, ◌∙◌, arith}
 use Rattle.memory.specs.Access.{Reads, Writes}
-use Rattle.memory.specs.Cut.{cut, length_cut}
+use Rattle.memory.specs.Cut.{length_cut}
 use Rattle.pairs.proofs.Whole.{reads-part, writes-part, keeps-part}
 use Rattle.pairs.specs.Interleaving.{weave, reach, interleaved_words, interleaved_rest}
 use Rattle.std.proofs.lemmas.List.{length-set, drop-set-lt}
-use Rattle.refusals.specs.declared.refusal.Refusal.{Refusal}
+use Rattle.words.specs.declared.refusal.Refusal.{Refusal}
 
 pub length-weave : (xs ys : List ℕ) → length (weave xs ys) ≡ 2 * min (length xs) (length ys)
 unfolding weave

@@ -1,11 +1,11 @@
 -- Reading and writing either part of a joined core.
-use Rattle.std.proofs.Common.{◌≡◌, ℕ, ◌-◌, ◌<◌, ◌≤◌, List, ◌++◌, length, set, Result, sym, refl, ap, ◌∙◌, arith}
+use Rattle.std.proofs.Common.{◌≡◌, ℕ, ◌-◌, ◌<◌, ◌≤◌, List, ◌++◌, length, Result, sym, refl, ap, ◌∙◌, arith}
 use Rattle.memory.specs.Access.{Reads, Writes}
 use Rattle.memory.specs.Cut.{over, over-set}
 use Rattle.pairs.proofs.Whole.{reads-part, writes-part, keeps-part}
 use Rattle.pairs.specs.Joining.{joined_words, joined_rest}
 use Rattle.std.proofs.lemmas.List.{length-append, length-set, get_or_append_left, get_or-append_right, set-append_left, set-append_right}
-use Rattle.refusals.specs.declared.refusal.Refusal.{Refusal}
+use Rattle.words.specs.declared.refusal.Refusal.{Refusal}
 
 module _ (xs ys : List ℕ) (a : ℕ) (top : a < 262144) where
   pub reads-low : a < length xs → (r : Result ℕ Refusal) → Reads xs a r → Reads (joined_words xs ys) a r

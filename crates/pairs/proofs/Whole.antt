@@ -1,8 +1,8 @@
 -- A whole that is made of a part: what the part answers at b, the whole, cut, answers at a.
-use Rattle.std.proofs.Common.{◌≡◌, ℕ, ◌<◌, ◌≤◌, List, length, get_or, set, Ok, Err, Result, sym, refl, ap, ◌∙◌, arith}
+use Rattle.std.proofs.Common.{◌≡◌, ℕ, ◌<◌, ◌≤◌, List, length, get_or, set, Ok, Err, Result, sym, ap, ◌∙◌, arith}
 use Rattle.memory.specs.Access.{Reads, Writes}
 use Rattle.memory.specs.Cut.{cut, length_cut, get_or-cut, set-cut}
-use Rattle.refusals.specs.declared.refusal.Refusal.{Refusal}
+use Rattle.words.specs.declared.refusal.Refusal.{Refusal}
 
 module _ (F : List ℕ → List ℕ) (part : List ℕ) (a b : ℕ) (top : a < 262144) (into : b < length part → a < length (F part)) (past : length part ≤ b → length (F part) ≤ a) where
   pub reads-part : (b < length part → get_or (F part) a 0 ≡ get_or part b 0) → (r : Result ℕ Refusal) → Reads part b r → Reads (cut (F part)) a r

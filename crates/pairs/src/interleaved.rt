@@ -3,8 +3,7 @@ ghost use Rattle.pairs.specs.Interleaving.{weave, interleaved_words, interleaved
 ghost use Rattle.std.specs.Prelude.{◌≡◌, ℕ, List};
 
 use memory::{CORE_LIMIT, Core};
-use refusals::Refusal;
-use words::WORD_LIMIT;
+use words::{Refusal, WORD_LIMIT};
 
 /// The words of two cores in turn: even addresses in the first, odd ones in the second.
 #[derive(Drop)]

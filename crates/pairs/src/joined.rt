@@ -3,8 +3,7 @@ ghost use Rattle.pairs.specs.Joining.{joined_words, joined_rest, narrow-joined};
 ghost use Rattle.std.specs.Prelude.{◌≡◌, ℕ, List, ◌++◌};
 
 use memory::{CORE_LIMIT, Core};
-use refusals::Refusal;
-use words::WORD_LIMIT;
+use words::{Refusal, WORD_LIMIT};
 
 /// The words of one core and then those of another.
 #[derive(Drop)]

@@ -2,7 +2,7 @@
 use Rattle.std.proofs.Common.{◌≡◌, ℕ, ◌+◌, ◌-◌, ◌*◌, ◌/◌, ◌%◌, ◌^◌, ◌<◌, ◌≤◌, min, Bool, true, false, cond, not, eqb, sym, refl, ap, ◌∙◌, subst, ap₂, ⊎_elim, add-zero, mul-le-mul_right, mod-eq_of_lt, mul_comm, add-mul, zero-mul, mul-one, div-one, arith, pow_mono}
 use Rattle.shifts.proofs.Powers.{past-left, past-right}
 use Rattle.shifts.specs.Arithmetic.{moved_beside, overflows}
-use Rattle.shifts.specs.Distance.{positions}
+use Rattle.shifts.specs.Distance.{places}
 use Rattle.shifts.specs.declared.distances.Distance.{Distance}
 use Rattle.shifts.specs.declared.distances.Distance.TheVariants.{Left, Right}
 use Rattle.std.proofs.lemmas.Nat.{pow_pos, pow-add, pow_below, mod_below, div-add-mod', div-mul-add, mod-mul-add, le-div, shl_whole, shr_below, shr_le}
@@ -65,9 +65,9 @@ left-past-minus m n width minus h l e = rw e (ap₂ (λ (x : ℕ) (y : Bool). (x
 pub left-past-plus : (m n width : ℕ) (minus : Bool) → width < n → minus ≡ false → ◌≡◌ {A = ℕ × Bool} (0, not (eqb m 0)) (moved_beside width minus m (Left n), overflows width minus m (Left n))
 left-past-plus m n width minus l e = rw e (ap₂ (λ (x : ℕ) (y : Bool). (x, y)) (sym (past-left m n width (omega arith))) (past-plus m n width l))
 
--- to the right as many positions as the width has do all that more of them do
-few-positions : (m n width : ℕ) → m < 2 ^ width → m / 2 ^ min n width ≡ m / 2 ^ n
-few-positions m n width h =
+-- to the right as many places as the width has do all that more of them do
+few-places : (m n width : ℕ) → m < 2 ^ width → m / 2 ^ min n width ≡ m / 2 ^ n
+few-places m n width h =
     ⊎_elim
     (λ (l : n < width). ap (λ (x : ℕ). m / 2 ^ x) (omega arith))
     (λ (l : width ≤ n).
@@ -75,19 +75,19 @@ few-positions m n width h =
     ap (λ (x : ℕ). m / 2 ^ x) e ∙ past-right m width width h (omega arith) ∙ sym (past-right m n width h l))
     (cases_lt n width)
 
-filled : (n width positions above : ℕ) (minus : Bool) → positions ≡ min n width → cond minus (2 ^ positions - 1) 0 * 2 ^ (width - positions) % 2 ^ (above + width) ≡ cond minus (2 ^ width - 2 ^ (width - n)) 0
-filled n width positions above true e =
-    let s : positions + (width - positions) ≡ width = omega arith in
-    let t : width - positions ≡ width - n = omega arith in
-    shl_whole (2 ^ positions - 1) positions (width - positions) (above + width) (ones_lt positions) (omega arith)
-    ∙ sym (high_ones positions (width - positions)) ∙ ap₂ (λ (x y : ℕ). 2 ^ x - 2 ^ y) s t
-filled n width positions above false e = ap (λ (x : ℕ). x % 2 ^ (above + width)) (zero-mul (2 ^ (width - positions))) ∙ zero-mod (2 ^ (above + width))
+filled : (n width places above : ℕ) (minus : Bool) → places ≡ min n width → cond minus (2 ^ places - 1) 0 * 2 ^ (width - places) % 2 ^ (above + width) ≡ cond minus (2 ^ width - 2 ^ (width - n)) 0
+filled n width places above true e =
+    let s : places + (width - places) ≡ width = omega arith in
+    let t : width - places ≡ width - n = omega arith in
+    shl_whole (2 ^ places - 1) places (width - places) (above + width) (ones_lt places) (omega arith)
+    ∙ sym (high_ones places (width - places)) ∙ ap₂ (λ (x y : ℕ). 2 ^ x - 2 ^ y) s t
+filled n width places above false e = ap (λ (x : ℕ). x % 2 ^ (above + width)) (zero-mul (2 ^ (width - places))) ∙ zero-mod (2 ^ (above + width))
 
-pub right-within : (m n width above : ℕ) (minus : Bool) (positions signs : ℕ) → m < 2 ^ width → positions ≡ min n width → signs ≡ cond minus (2 ^ positions - 1) 0 → m / 2 ^ positions + signs * 2 ^ (width - positions) % 2 ^ (above + width) ≡ moved_beside width minus m (Right n)
-right-within m n width above minus positions signs h e f =
+pub right-within : (m n width above : ℕ) (minus : Bool) (places signs : ℕ) → m < 2 ^ width → places ≡ min n width → signs ≡ cond minus (2 ^ places - 1) 0 → m / 2 ^ places + signs * 2 ^ (width - places) % 2 ^ (above + width) ≡ moved_beside width minus m (Right n)
+right-within m n width above minus places signs h e f =
     ap₂ (λ (x y : ℕ). x + y)
-    (ap (λ (x : ℕ). m / 2 ^ x) e ∙ few-positions m n width h)
-    (ap (λ (x : ℕ). x * 2 ^ (width - positions) % 2 ^ (above + width)) f ∙ filled n width positions above minus e)
+    (ap (λ (x : ℕ). m / 2 ^ x) e ∙ few-places m n width h)
+    (ap (λ (x : ℕ). x * 2 ^ (width - places) % 2 ^ (above + width)) f ∙ filled n width places above minus e)
 
 -- what is moved stays within the width
 pub moved-below : (width : ℕ) (minus : Bool) (m : ℕ) (d : Distance) → m < 2 ^ width → moved_beside width minus m d < 2 ^ width
@@ -106,13 +106,13 @@ moved-below width true m (Right n) h =
     omega arith)
     (cases_lt width n)
 
--- a distance of 0 moves nothing
-pub unmoved : (width : ℕ) (minus : Bool) (m : ℕ) (d : Distance) → m < 2 ^ width → positions d ≡ 0 → moved_beside width minus m d ≡ m
+-- no place moves nothing
+pub unmoved : (width : ℕ) (minus : Bool) (m : ℕ) (d : Distance) → m < 2 ^ width → places d ≡ 0 → moved_beside width minus m d ≡ m
 unmoved width minus m (Left n) h z = subst (λ (k : ℕ). m * 2 ^ k % 2 ^ width ≡ m) (sym z) (ap (λ (x : ℕ). x % 2 ^ width) (mul-one m) ∙ mod-eq_of_lt h)
 unmoved width true m (Right n) h z = subst (λ (k : ℕ). m / 2 ^ k + (2 ^ width - 2 ^ (width - k)) ≡ m) (sym z) (simp (div-one, sub-zero, sub_self, add-zero))
 unmoved width false m (Right n) h z = subst (λ (k : ℕ). m / 2 ^ k + 0 ≡ m) (sym z) (simp (div-one, add-zero))
 
-pub unlost : (width : ℕ) (minus : Bool) (m : ℕ) (d : Distance) → m < 2 ^ width → positions d ≡ 0 → overflows width minus m d ≡ false
+pub unlost : (width : ℕ) (minus : Bool) (m : ℕ) (d : Distance) → m < 2 ^ width → places d ≡ 0 → overflows width minus m d ≡ false
 unlost width true m (Left n) h z = subst (λ (k : ℕ). not (eqb (m * 2 ^ k / 2 ^ width) (2 ^ k - 1)) ≡ false) (sym z) (ap (λ (x : ℕ). not (eqb x 0)) (ap (λ (x : ℕ). x / 2 ^ width) (mul-one m) ∙ div-eq_of_lt h))
 unlost width false m (Left n) h z = subst (λ (k : ℕ). not (eqb (m * 2 ^ k / 2 ^ width) 0) ≡ false) (sym z) (ap (λ (x : ℕ). not (eqb x 0)) (ap (λ (x : ℕ). x / 2 ^ width) (mul-one m) ∙ div-eq_of_lt h))
 unlost width minus m (Right n) h z = refl

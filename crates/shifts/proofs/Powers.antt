@@ -15,7 +15,7 @@ past-left m n width l =
 pub past-right : (m n width : ℕ) → m < 2 ^ width → width ≤ n → m / 2 ^ n ≡ 0
 past-right m n width h l = div-eq_of_lt (lt_of_lt_of_le h (pow_mono l))
 
--- of j + k bits that move k positions to the left, the j lowest stay
+-- of j + k bits that move k places to the left, the j lowest stay
 pub shl-mod : (m j k : ℕ) → m * 2 ^ k % 2 ^ (j + k) ≡ m % 2 ^ j * 2 ^ k
 shl-mod m j k =
     let p = pow-add 2 j k in

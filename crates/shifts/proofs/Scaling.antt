@@ -3,8 +3,8 @@ use Rattle.std.proofs.Common.{◌≡◌, ℕ, suc, ◌+◌, ◌-◌, ◌*◌, �
 use Rattle.shifts.proofs.Beside.{all-signs, all-signs-fit, moved-below, unlost, unmoved}
 use Rattle.shifts.proofs.Powers.{past-right}
 use Rattle.shifts.specs.Arithmetic.{moved_beside, overflows, sign_bit, arithmetic, SignStays}
-use Rattle.words.specs.Signed.{is_negative}
-use Rattle.shifts.specs.Distance.{distance_of, MovesNothing}
+use Rattle.words.specs.Signed.{is_negative as negative}
+use Rattle.shifts.specs.Distance.{distance_of, NoPlace}
 use Rattle.shifts.specs.Scaling.{Divided, Scaled, ArithmeticScales}
 use Rattle.words.specs.Signed.{signed}
 use Rattle.shifts.specs.declared.distances.Distance.{Distance}
@@ -104,42 +104,42 @@ scaled width true m (Right n) h =
 
 pub arithmetic-below : (w e : ℕ) → (arithmetic w e).0 < 2 ^ 36
 unfolding arithmetic
-arithmetic-below w e = omega (arith, moved-below 35 (is_negative w) (w % 2 ^ 35) (distance_of e) (omega arith))
+arithmetic-below w e = omega (arith, moved-below 35 (negative w) (w % 2 ^ 35) (distance_of e) (omega arith))
 
-signed_is : (w : ℕ) → signed w ≡ valued 35 (is_negative w) (w % 2 ^ 35)
+signed_is : (w : ℕ) → signed w ≡ valued 35 (negative w) (w % 2 ^ 35)
 unfolding signed
-signed_is w = by (is_negative w) refl
+signed_is w = by (negative w) refl
   where
-    by : (t : Bool) → is_negative w ≡ t → cond t (pos (w % 2 ^ 36) -ℤ pos (2 ^ 36)) (pos (w % 2 ^ 36)) ≡ valued 35 t (w % 2 ^ 35)
+    by : (t : Bool) → negative w ≡ t → cond t (pos (w % 2 ^ 36) -ℤ pos (2 ^ 36)) (pos (w % 2 ^ 36)) ≡ valued 35 t (w % 2 ^ 35)
     by true e = omega (arith, ints, leb-true (2 ^ 35) (w % 2 ^ 36) e)
     by false e = ap pos (omega (arith, leb-false (2 ^ 35) (w % 2 ^ 36) e))
 
 -- the sign stays where the bits beside it change
-pub sign-stays : (w m : ℕ) → m < 2 ^ 35 → is_negative (sign_bit w + m) ≡ is_negative w
+pub sign-stays : (w m : ℕ) → m < 2 ^ 35 → negative (sign_bit w + m) ≡ negative w
 sign-stays w m h =
     ⊎_elim
     (λ (l : w % 2 ^ 36 < 2 ^ 35). lt-leb (2 ^ 35) ((sign_bit w + m) % 2 ^ 36) (omega arith) ∙ sym (lt-leb (2 ^ 35) (w % 2 ^ 36) l))
     (λ (l : 2 ^ 35 ≤ w % 2 ^ 36). le-leb (2 ^ 35) ((sign_bit w + m) % 2 ^ 36) (omega arith) ∙ sym (le-leb (2 ^ 35) (w % 2 ^ 36) l))
     (cases_lt (w % 2 ^ 36) (2 ^ 35))
 
-pub arithmetic-still : (w e : ℕ) → MovesNothing e → arithmetic w e ≡ (w % 2 ^ 36, false)
+pub arithmetic-still : (w e : ℕ) → NoPlace e → arithmetic w e ≡ (w % 2 ^ 36, false)
 unfolding arithmetic
 arithmetic-still w e z =
     let h : w % 2 ^ 35 < 2 ^ 35 = omega arith in
-    let m = unmoved 35 (is_negative w) (w % 2 ^ 35) (distance_of e) h z in
-    ap₂ (λ (x : ℕ) (y : Bool). (x, y)) (omega (arith, m)) (unlost 35 (is_negative w) (w % 2 ^ 35) (distance_of e) h z)
+    let m = unmoved 35 (negative w) (w % 2 ^ 35) (distance_of e) h z in
+    ap₂ (λ (x : ℕ) (y : Bool). (x, y)) (omega (arith, m)) (unlost 35 (negative w) (w % 2 ^ 35) (distance_of e) h z)
 
 pub arithmetic-sign : (w e : ℕ) → SignStays w (arithmetic w e)
 unfolding arithmetic
-arithmetic-sign w e = sign-stays w (moved_beside 35 (is_negative w) (w % 2 ^ 35) (distance_of e)) (moved-below 35 (is_negative w) (w % 2 ^ 35) (distance_of e) (omega arith))
+arithmetic-sign w e = sign-stays w (moved_beside 35 (negative w) (w % 2 ^ 35) (distance_of e)) (moved-below 35 (negative w) (w % 2 ^ 35) (distance_of e) (omega arith))
 
 pub arithmetic-scales : (w e : ℕ) → ArithmeticScales w e (arithmetic w e)
 unfolding arithmetic
 arithmetic-scales w e =
     let d = distance_of e in
     let h : w % 2 ^ 35 < 2 ^ 35 = omega arith in
-    let m = moved_beside 35 (is_negative w) (w % 2 ^ 35) d in
-    let b : m < 2 ^ 35 = moved-below 35 (is_negative w) (w % 2 ^ 35) d h in
-    let r : signed (sign_bit w + m) ≡ valued 35 (is_negative w) m = signed_is (sign_bit w + m) ∙ ap₂ (valued 35) (sign-stays w m b) (omega arith) in
-    subst (λ (z : ℤ). Scaled 35 z d (signed (sign_bit w + m)) (overflows 35 (is_negative w) (w % 2 ^ 35) d)) (sym (signed_is w))
-    (subst (λ (z : ℤ). Scaled 35 (valued 35 (is_negative w) (w % 2 ^ 35)) d z (overflows 35 (is_negative w) (w % 2 ^ 35) d)) (sym r) (scaled 35 (is_negative w) (w % 2 ^ 35) d h))
+    let m = moved_beside 35 (negative w) (w % 2 ^ 35) d in
+    let b : m < 2 ^ 35 = moved-below 35 (negative w) (w % 2 ^ 35) d h in
+    let r : signed (sign_bit w + m) ≡ valued 35 (negative w) m = signed_is (sign_bit w + m) ∙ ap₂ (valued 35) (sign-stays w m b) (omega arith) in
+    subst (λ (z : ℤ). Scaled 35 z d (signed (sign_bit w + m)) (overflows 35 (negative w) (w % 2 ^ 35) d)) (sym (signed_is w))
+    (subst (λ (z : ℤ). Scaled 35 (valued 35 (negative w) (w % 2 ^ 35)) d z (overflows 35 (negative w) (w % 2 ^ 35) d)) (sym r) (scaled 35 (negative w) (w % 2 ^ 35) d h))

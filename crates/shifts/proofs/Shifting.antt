@@ -1,11 +1,11 @@
 -- A logical shift keeps the width, and the same shift back gives what did not pass the end.
 use Rattle.std.proofs.Common.{◌≡◌, ℕ, ◌+◌, ◌-◌, ◌*◌, ◌/◌, ◌%◌, ◌^◌, ◌<◌, ◌≤◌, sym, ap, ◌∙◌, subst, ⊎_elim, mod-eq_of_lt, mul-one, div-one, arith}
 use Rattle.shifts.proofs.Directions.{Opposed, left-right, right-left, left-still, right-still, opposed}
-use Rattle.shifts.proofs.Pairing.{paired-below, unpaired-below, paired-unpaired, unpaired-paired}
+use Rattle.shifts.proofs.Pairing.{paired-below, halves-below, paired-halves, halves-paired}
 use Rattle.shifts.proofs.Powers.{past-left, shl-mod}
-use Rattle.shifts.specs.Distance.{distance_of, way_back, positions, MovesNothing}
+use Rattle.shifts.specs.Distance.{distance_of, opposite, places, NoPlace}
 use Rattle.shifts.specs.Logical.{shifted, kept, logical, logical_pair, LogicalThereAndBack, LogicalPairThereAndBack}
-use Rattle.shifts.specs.Pair.{paired, unpaired}
+use Rattle.shifts.specs.Pair.{paired, halves}
 use Rattle.shifts.specs.declared.distances.Distance.{Distance}
 use Rattle.shifts.specs.declared.distances.Distance.TheVariants.{Left, Right}
 use Rattle.std.proofs.lemmas.Nat.{pow_pos, mod_below, shr_le, shl-shr, shr_split}
@@ -28,7 +28,7 @@ left-and-back width m n =
     ap (λ (x : ℕ). m * 2 ^ n % 2 ^ x / 2 ^ n) s ∙ ap (λ (x : ℕ). x / 2 ^ n) (shl-mod m (width - n) n) ∙ shl-shr (m % 2 ^ (width - n)) n)
     (cases_lt width n)
 
-shifted_none : (width m : ℕ) (d : Distance) → m < 2 ^ width → positions d ≡ 0 → shifted width m d ≡ m
+shifted_none : (width m : ℕ) (d : Distance) → m < 2 ^ width → places d ≡ 0 → shifted width m d ≡ m
 shifted_none width m (Left n) h z = subst (λ (k : ℕ). m * 2 ^ k % 2 ^ width ≡ m) (sym z) (ap (λ (x : ℕ). x % 2 ^ width) (mul-one m) ∙ mod-eq_of_lt h)
 shifted_none width m (Right n) h z = subst (λ (k : ℕ). m / 2 ^ k ≡ m) (sym z) (div-one m)
 
@@ -42,7 +42,7 @@ pub logical-below : (w e : ℕ) → logical w e < 2 ^ 36
 unfolding logical
 logical-below w e = shifted-below 36 (w % 2 ^ 36) (distance_of e) (omega arith)
 
-pub logical-still : (w e : ℕ) → MovesNothing e → logical w e ≡ w % 2 ^ 36
+pub logical-still : (w e : ℕ) → NoPlace e → logical w e ≡ w % 2 ^ 36
 unfolding logical
 logical-still w e z = shifted_none 36 (w % 2 ^ 36) (distance_of e) (omega arith) z
 
@@ -52,20 +52,20 @@ logical-back w e =
     let h : w % 2 ^ 36 < 2 ^ 36 = omega arith in
     let m = shifted 36 (w % 2 ^ 36) (distance_of e) in
     let same : m % 2 ^ 36 ≡ m = mod-eq_of_lt (shifted-below 36 (w % 2 ^ 36) (distance_of e) h) in
-    ap (λ (x : ℕ). shifted 36 x (distance_of (way_back e))) same ∙ shifted_back 36 (w % 2 ^ 36) h (opposed e)
+    ap (λ (x : ℕ). shifted 36 x (distance_of (opposite e))) same ∙ shifted_back 36 (w % 2 ^ 36) h (opposed e)
 
 pub logical_pair-below : (a b e : ℕ) → ((logical_pair a b e).0 < 2 ^ 36) × ((logical_pair a b e).1 < 2 ^ 36)
 unfolding logical_pair
-logical_pair-below a b e = unpaired-below (shifted 72 (paired a b) (distance_of e)) (shifted-below 72 (paired a b) (distance_of e) (paired-below a b))
+logical_pair-below a b e = halves-below (shifted 72 (paired a b) (distance_of e)) (shifted-below 72 (paired a b) (distance_of e) (paired-below a b))
 
-pub logical_pair-still : (a b e : ℕ) → MovesNothing e → logical_pair a b e ≡ (a % 2 ^ 36, b % 2 ^ 36)
+pub logical_pair-still : (a b e : ℕ) → NoPlace e → logical_pair a b e ≡ (a % 2 ^ 36, b % 2 ^ 36)
 unfolding logical_pair
-logical_pair-still a b e z = ap unpaired (shifted_none 72 (paired a b) (distance_of e) (paired-below a b) z) ∙ unpaired-paired a b
+logical_pair-still a b e z = ap halves (shifted_none 72 (paired a b) (distance_of e) (paired-below a b) z) ∙ halves-paired a b
 
 pub logical_pair-back : (a b e : ℕ) → LogicalPairThereAndBack a b e (logical_pair a b e)
 unfolding logical_pair
 logical_pair-back a b e =
     let h = paired-below a b in
     let m = shifted 72 (paired a b) (distance_of e) in
-    let same : paired (unpaired m).0 (unpaired m).1 ≡ m = paired-unpaired m (shifted-below 72 (paired a b) (distance_of e) h) in
-    ap (λ (x : ℕ). unpaired (shifted 72 x (distance_of (way_back e)))) same ∙ ap unpaired (shifted_back 72 (paired a b) h (opposed e))
+    let same : paired (halves m).0 (halves m).1 ≡ m = paired-halves m (shifted-below 72 (paired a b) (distance_of e) h) in
+    ap (λ (x : ℕ). halves (shifted 72 x (distance_of (opposite e)))) same ∙ ap halves (shifted_back 72 (paired a b) h (opposed e))

@@ -1,9 +1,9 @@
 -- A rotation keeps the width, and the same rotation back gives the number again.
 use Rattle.std.proofs.Common.{◌≡◌, ℕ, ◌+◌, ◌-◌, ◌*◌, ◌/◌, ◌%◌, ◌^◌, ◌<◌, sym, ap, ◌∙◌, subst, ap₂, add-zero, mod-eq_of_lt, mul_comm, add_comm, zero-add, zero-mul, mul-one, div-one, arith}
 use Rattle.shifts.proofs.Directions.{Opposed, left-right, right-left, left-still, right-still, opposed}
-use Rattle.shifts.proofs.Pairing.{paired-below, unpaired-below, paired-unpaired, unpaired-paired}
-use Rattle.shifts.specs.Distance.{distance_of, way_back, positions, MovesNothing}
-use Rattle.shifts.specs.Pair.{paired, unpaired}
+use Rattle.shifts.proofs.Pairing.{paired-below, halves-below, paired-halves, halves-paired}
+use Rattle.shifts.specs.Distance.{distance_of, opposite, places, NoPlace}
+use Rattle.shifts.specs.Pair.{paired, halves}
 use Rattle.shifts.specs.Rotations.{exchanged, turned, rotated, rotated_pair, RotatedThereAndBack, RotatedPairThereAndBack}
 use Rattle.shifts.specs.declared.distances.Distance.{Distance}
 use Rattle.shifts.specs.declared.distances.Distance.TheVariants.{Left, Right}
@@ -23,7 +23,7 @@ exchanged-back j k m h =
     let l = high-below j k m h in
     ap₂ (λ (x y : ℕ). x * 2 ^ j + y) (mod_low (m % 2 ^ j) k (m / 2 ^ j) l) (shr_high (m % 2 ^ j) k (m / 2 ^ j) l) ∙ shr_split m j
 
--- the two parts that are exchanged make up the number
+-- the two parts that change places make up the number
 parts : (n width : ℕ) → 0 < width → (width - n % width) + n % width ≡ width
 parts n width p = omega (arith, mod_below n width p)
 
@@ -47,7 +47,7 @@ still-left width m h =
 still-right : (width m : ℕ) → turned width m (Right 0) ≡ m
 still-right width m = simp (zero-mod, sub-zero, mod-one, div-one, zero-mul, zero-add)
 
-turned_none : (width m : ℕ) (d : Distance) → m < 2 ^ width → positions d ≡ 0 → turned width m d ≡ m
+turned_none : (width m : ℕ) (d : Distance) → m < 2 ^ width → places d ≡ 0 → turned width m d ≡ m
 turned_none width m (Left n) h z = subst (λ (k : ℕ). turned width m (Left k) ≡ m) (sym z) (still-left width m h)
 turned_none width m (Right n) h z = subst (λ (k : ℕ). turned width m (Right k) ≡ m) (sym z) (still-right width m)
 
@@ -61,7 +61,7 @@ pub rotated-below : (w e : ℕ) → rotated w e < 2 ^ 36
 unfolding rotated
 rotated-below w e = turned-below 36 (w % 2 ^ 36) (distance_of e) (omega arith) (omega arith)
 
-pub rotated-still : (w e : ℕ) → MovesNothing e → rotated w e ≡ w % 2 ^ 36
+pub rotated-still : (w e : ℕ) → NoPlace e → rotated w e ≡ w % 2 ^ 36
 unfolding rotated
 rotated-still w e z = turned_none 36 (w % 2 ^ 36) (distance_of e) (omega arith) z
 
@@ -71,20 +71,20 @@ rotated-back w e =
     let h : w % 2 ^ 36 < 2 ^ 36 = omega arith in
     let m = turned 36 (w % 2 ^ 36) (distance_of e) in
     let same : m % 2 ^ 36 ≡ m = mod-eq_of_lt (turned-below 36 (w % 2 ^ 36) (distance_of e) (omega arith) h) in
-    ap (λ (x : ℕ). turned 36 x (distance_of (way_back e))) same ∙ turned-back 36 (w % 2 ^ 36) (omega arith) h (opposed e)
+    ap (λ (x : ℕ). turned 36 x (distance_of (opposite e))) same ∙ turned-back 36 (w % 2 ^ 36) (omega arith) h (opposed e)
 
 pub rotated_pair-below : (a b e : ℕ) → ((rotated_pair a b e).0 < 2 ^ 36) × ((rotated_pair a b e).1 < 2 ^ 36)
 unfolding rotated_pair
-rotated_pair-below a b e = unpaired-below (turned 72 (paired a b) (distance_of e)) (turned-below 72 (paired a b) (distance_of e) (omega arith) (paired-below a b))
+rotated_pair-below a b e = halves-below (turned 72 (paired a b) (distance_of e)) (turned-below 72 (paired a b) (distance_of e) (omega arith) (paired-below a b))
 
-pub rotated_pair-still : (a b e : ℕ) → MovesNothing e → rotated_pair a b e ≡ (a % 2 ^ 36, b % 2 ^ 36)
+pub rotated_pair-still : (a b e : ℕ) → NoPlace e → rotated_pair a b e ≡ (a % 2 ^ 36, b % 2 ^ 36)
 unfolding rotated_pair
-rotated_pair-still a b e z = ap unpaired (turned_none 72 (paired a b) (distance_of e) (paired-below a b) z) ∙ unpaired-paired a b
+rotated_pair-still a b e z = ap halves (turned_none 72 (paired a b) (distance_of e) (paired-below a b) z) ∙ halves-paired a b
 
 pub rotated_pair-back : (a b e : ℕ) → RotatedPairThereAndBack a b e (rotated_pair a b e)
 unfolding rotated_pair
 rotated_pair-back a b e =
     let h = paired-below a b in
     let m = turned 72 (paired a b) (distance_of e) in
-    let same : paired (unpaired m).0 (unpaired m).1 ≡ m = paired-unpaired m (turned-below 72 (paired a b) (distance_of e) (omega arith) h) in
-    ap (λ (x : ℕ). unpaired (turned 72 x (distance_of (way_back e)))) same ∙ ap unpaired (turned-back 72 (paired a b) (omega arith) h (opposed e)) ∙ unpaired-paired a b
+    let same : paired (halves m).0 (halves m).1 ≡ m = paired-halves m (turned-below 72 (paired a b) (distance_of e) (omega arith) h) in
+    ap (λ (x : ℕ). halves (turned 72 x (distance_of (opposite e)))) same ∙ ap halves (turned-back 72 (paired a b) (omega arith) h (opposed e)) ∙ halves-paired a b

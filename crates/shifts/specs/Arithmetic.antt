@@ -1,6 +1,6 @@
 -- The arithmetic shifts: the sign, bit 0, never moves, and the bits beside it do.
 use Rattle.std.specs.Prelude.{◌≡◌, ℕ, ◌+◌, ◌-◌, ◌*◌, ◌/◌, ◌%◌, ◌^◌, ◌<◌, Bool, false, cond, not, ◌==◌}
-use Rattle.shifts.specs.Distance.{distance_of, positions}
+use Rattle.shifts.specs.Distance.{distance_of, places}
 use Rattle.shifts.specs.declared.distances.Distance.{Distance}
 use Rattle.shifts.specs.declared.distances.Distance.TheVariants.{Left, Right}
 use Rattle.words.specs.Signed.{is_negative}
@@ -35,13 +35,13 @@ beside a b = a % 2 ^ 35 * 2 ^ 35 + b % 2 ^ 35
 abbrev pub under_sign : ℕ → ℕ → Bool → ℕ × ℕ × Bool
 under_sign a m overflow = (sign_bit a + m / 2 ^ 35, sign_bit a + m % 2 ^ 35, overflow)
 
--- ASHC: the two words and Overflow; where nothing moves, the second word's sign stays as it is
+-- ASHC: the two words and Overflow; no place at all leaves the second word's sign as it is
 unfoldable pub arithmetic_pair : ℕ → ℕ → ℕ → ℕ × ℕ × Bool
 arithmetic_pair a b e =
-    cond (positions (distance_of e) == 0)
+    cond (places (distance_of e) == 0)
     (a % 2 ^ 36, b % 2 ^ 36, false)
     (under_sign a (moved_beside 70 (is_negative a) (beside a b) (distance_of e)) (overflows 70 (is_negative a) (beside a b) (distance_of e)))
 
 -- the first word's sign is as it was, and any move gives it to the second word
 abbrev pub SignShared : ℕ → ℕ → ℕ × ℕ × Bool → Type 0
-SignShared a e r = (is_negative r.0 ≡ is_negative a) × (0 < positions (distance_of e) → is_negative r.1 ≡ is_negative a)
+SignShared a e r = (is_negative r.0 ≡ is_negative a) × (0 < places (distance_of e) → is_negative r.1 ≡ is_negative a)

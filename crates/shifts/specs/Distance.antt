@@ -7,20 +7,20 @@ use Rattle.shifts.specs.declared.distances.Distance.TheVariants.{Left, Right}
 unfoldable pub distance_of : ℕ → Distance
 distance_of e = cond (nat_lt (e % 2 ^ 18) (2 ^ 17)) (Left (e % 256)) (Right ((2 ^ 18 - e % 2 ^ 18) % 256))
 
--- so 255 positions are the most
+-- so 255 places are the most
 abbrev pub UpTo255 : Distance → Type 0
 UpTo255 (Left n) = n < 256
 UpTo255 (Right n) = n < 256
 
 -- the E that moves as far the other way
-abbrev pub way_back : ℕ → ℕ
-way_back e = (2 ^ 18 - e % 2 ^ 18) % 2 ^ 18
+abbrev pub opposite : ℕ → ℕ
+opposite e = (2 ^ 18 - e % 2 ^ 18) % 2 ^ 18
 
--- how many positions, whichever way
-abbrev pub positions : Distance → ℕ
-positions (Left n) = n
-positions (Right n) = n
+-- how many places, whichever way
+abbrev pub places : Distance → ℕ
+places (Left n) = n
+places (Right n) = n
 
 -- E moves nothing
-abbrev pub MovesNothing : ℕ → Type 0
-MovesNothing e = positions (distance_of e) ≡ 0
+abbrev pub NoPlace : ℕ → Type 0
+NoPlace e = places (distance_of e) ≡ 0

@@ -1,7 +1,7 @@
 -- The rotations: what passes one end comes in at the other.
 use Rattle.std.specs.Prelude.{◌≡◌, ℕ, ◌+◌, ◌-◌, ◌*◌, ◌/◌, ◌%◌, ◌^◌}
-use Rattle.shifts.specs.Distance.{distance_of, way_back}
-use Rattle.shifts.specs.Pair.{paired, unpaired}
+use Rattle.shifts.specs.Distance.{distance_of, opposite}
+use Rattle.shifts.specs.Pair.{paired, halves}
 use Rattle.shifts.specs.declared.distances.Distance.{Distance}
 use Rattle.shifts.specs.declared.distances.Distance.TheVariants.{Left, Right}
 
@@ -20,11 +20,11 @@ rotated w e = turned 36 (w % 2 ^ 36) (distance_of e)
 
 -- ROTC
 unfoldable pub rotated_pair : ℕ → ℕ → ℕ → ℕ × ℕ
-rotated_pair a b e = unpaired (turned 72 (paired a b) (distance_of e))
+rotated_pair a b e = halves (turned 72 (paired a b) (distance_of e))
 
 -- a rotation and the same rotation back lose nothing
 abbrev pub RotatedThereAndBack : ℕ → ℕ → ℕ → Type 0
-RotatedThereAndBack w e r = rotated r (way_back e) ≡ w % 2 ^ 36
+RotatedThereAndBack w e r = rotated r (opposite e) ≡ w % 2 ^ 36
 
 abbrev pub RotatedPairThereAndBack : ℕ → ℕ → ℕ → ℕ × ℕ → Type 0
-RotatedPairThereAndBack a b e r = rotated_pair r.0 r.1 (way_back e) ≡ (a % 2 ^ 36, b % 2 ^ 36)
+RotatedPairThereAndBack a b e r = rotated_pair r.0 r.1 (opposite e) ≡ (a % 2 ^ 36, b % 2 ^ 36)

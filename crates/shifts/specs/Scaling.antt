@@ -1,5 +1,5 @@
 -- The arithmetic shifts as arithmetic: a product and a quotient by a power of two.
-use Rattle.std.specs.Prelude.{◌≡◌, ℕ, ◌%◌, ◌^◌, Bool, true, false, cond, ℤ, pos, ◌+ℤ◌, ◌-ℤ◌, ◌*ℤ◌, neg_ℤ, ◌≤ℤ◌, ◌<ℤ◌}
+use Rattle.std.specs.Prelude.{◌≡◌, ℕ, ◌^◌, Bool, true, false, cond, ℤ, pos, ◌+ℤ◌, ◌-ℤ◌, ◌*ℤ◌, neg_ℤ, ◌≤ℤ◌, ◌<ℤ◌}
 use Rattle.shifts.specs.Arithmetic.{beside}
 use Rattle.words.specs.Signed.{is_negative, signed}
 use Rattle.shifts.specs.Distance.{distance_of}

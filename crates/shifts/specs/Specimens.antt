@@ -25,12 +25,12 @@ RotatedSpecimens = (rotated 1 0o777777 ≡ 0o400000_000000) × (rotated 0o400000
 abbrev pub RotatedPairSpecimens : Type 0
 RotatedPairSpecimens = (rotated_pair 0 1 0o777777 ≡ (0o400000_000000, 0)) × (rotated_pair 0o400000_000000 0 1 ≡ (0, 1))
 
--- -1 moved 35 positions to the left is the least number; moved once more it overflows
+-- -1 moved 35 places to the left is the least number; moved once more it overflows
 abbrev pub ArithmeticSpecimens : Type 0
 ArithmeticSpecimens =
     (arithmetic 0o777777_777777 0o43 ≡ (0o400000_000000, false)) × (arithmetic 0o777777_777777 0o44 ≡ (0o400000_000000, true)) × (arithmetic 0o777777_777775 0o777777 ≡ (0o777777_777776, false))
 
--- the second word's sign is left as it is where nothing moves, and taken from the first by a move of one position
+-- the second word's sign is left as it is by no place, and taken from the first by one
 abbrev pub ArithmeticPairSpecimens : Type 0
 ArithmeticPairSpecimens =
     (arithmetic_pair 0 0o400000_000001 0 ≡ (0, 0o400000_000001, false)) × (arithmetic_pair 0 0o400000_000001 1 ≡ (0, 2, false)) × (arithmetic_pair 0o777777_777777 0 0o777777 ≡ (0o777777_777777, 0o600000_000000, false))

@@ -1,15 +1,16 @@
-//! The arithmetic shift of one word.
-
 ghost use Rattle.std.specs.Prelude.{◌≡◌, ◌-◌, ◌%◌, ◌^◌, ◌<◌, ◌≤◌, false, if◌then◌else◌};
 ghost use Rattle.shifts.specs.Arithmetic.{arithmetic, moved_beside, overflows, SignStays};
-ghost use Rattle.shifts.specs.Distance.{MovesNothing};
+ghost use Rattle.shifts.specs.Distance.{NoPlace};
 ghost use Rattle.shifts.specs.Scaling.{ArithmeticScales};
 ghost use Rattle.shifts.specs.Specimens.{ArithmeticSpecimens};
 ghost use Rattle.shifts.specs.declared.distances.Distance.TheVariants.{Left, Right};
 
 use crate::distances::Distance;
 use crate::effective_address::distance;
-use words::{SIGN_BIT, WORD_LIMIT};
+use words::WORD_LIMIT;
+
+/// What bit 0 of a word adds to it.
+pub(crate) const SIGN: u64 = 1 << 35;
 
 /// ASH: the word's signed value multiplied or divided by a power of two, and Overflow.
 pub fn ash(w: u64, e: u64) -> (u64, bool)
@@ -17,12 +18,12 @@ pub fn ash(w: u64, e: u64) -> (u64, bool)
     ensures narrow { result.0 < 2 ^ 36 }
     ensures sign { SignStays w result }
     ensures scales { ArithmeticScales w e result }
-    ensures still { MovesNothing e → result ≡ (w % 2 ^ 36, false) }
+    ensures still { NoPlace e → result ≡ (w % 2 ^ 36, false) }
     ensures specimens { ArithmeticSpecimens }
 {
     let word = w % WORD_LIMIT;
-    let field = word % SIGN_BIT;
-    let (moved, overflow) = move_field(word >= SIGN_BIT, field, distance(e));
+    let field = word % SIGN;
+    let (moved, overflow) = move_field(word >= SIGN, field, distance(e));
     (word - field + moved, overflow)
 }
 
@@ -43,29 +44,26 @@ fn move_field_left(minus: bool, field: u64, n: u64) -> (u64, bool)
     ensures { result ≡ (moved_beside 35 minus field (Left n), overflows 35 minus field (Left n)) }
 {
     if n < 36 {
-        (
-            (field << n) % SIGN_BIT,
-            field >> (35 - n) != signs(minus, n),
-        )
+        ((field << n) % SIGN, field >> (35 - n) != signs(minus, n))
     } else {
         // the last bit lost is a 0 that came in at the right
         (0, minus || field != 0)
     }
 }
 
-/// To the right, with the sign in the positions that fall empty. After 35 positions there is only the sign.
+/// To the right, with the sign in the places that fall empty. After 35 places there is only the sign.
 fn move_field_right(minus: bool, field: u64, n: u64) -> u64
     requires { field < 2 ^ 35 }
     ensures { result ≡ moved_beside 35 minus field (Right n) }
 {
-    let positions = n.min(35);
-    (field >> positions) + (signs(minus, positions) << (35 - positions))
+    let places = n.min(35);
+    (field >> places) + (signs(minus, places) << (35 - places))
 }
 
-/// As many bits as there are positions, each equal to the sign.
-fn signs(minus: bool, positions: u64) -> u64
-    requires { positions ≤ 35 }
-    ensures { result ≡ (if minus then 2 ^ positions - 1 else 0) }
+/// As many bits as there are places, each equal to the sign.
+fn signs(minus: bool, places: u64) -> u64
+    requires { places ≤ 35 }
+    ensures { result ≡ (if minus then 2 ^ places - 1 else 0) }
 {
-    if minus { (1 << positions) - 1 } else { 0 }
+    if minus { (1 << places) - 1 } else { 0 }
 }

@@ -1,15 +1,14 @@
-//! The arithmetic shift of two words as one number.
-
 ghost use Rattle.std.specs.Prelude.{◌≡◌, ◌-◌, ◌%◌, ◌^◌, ◌<◌, ◌≤◌, false, if◌then◌else◌};
 ghost use Rattle.shifts.specs.Arithmetic.{arithmetic_pair, beside, moved_beside, overflows, SignShared};
-ghost use Rattle.shifts.specs.Distance.{MovesNothing};
+ghost use Rattle.shifts.specs.Distance.{NoPlace};
 ghost use Rattle.shifts.specs.Scaling.{ArithmeticPairScales};
 ghost use Rattle.shifts.specs.Specimens.{ArithmeticPairSpecimens};
 ghost use Rattle.shifts.specs.declared.distances.Distance.TheVariants.{Left, Right};
 
+use crate::arithmetic::SIGN;
 use crate::distances::Distance;
 use crate::effective_address::distance;
-use words::{SIGN_BIT, WORD_LIMIT};
+use words::WORD_LIMIT;
 
 /// One more than the greatest number that the 70 bits can be.
 const FIELDS_LIMIT: u128 = 1 << 70;
@@ -21,19 +20,19 @@ pub fn ashc(a: u64, b: u64, e: u64) -> (u64, u64, bool)
     ensures narrow { (result.0 < 2 ^ 36) × (result.1 < 2 ^ 36) }
     ensures sign { SignShared a e result }
     ensures scales { ArithmeticPairScales a b e result }
-    ensures still { MovesNothing e → result ≡ (a % 2 ^ 36, b % 2 ^ 36, false) }
+    ensures still { NoPlace e → result ≡ (a % 2 ^ 36, b % 2 ^ 36, false) }
     ensures specimens { ArithmeticPairSpecimens }
 {
     let first = a % WORD_LIMIT;
     let by = distance(e);
-    if by.positions() == 0 {
+    if by.places() == 0 {
         return (first, b % WORD_LIMIT, false);
     }
-    let (moved, overflow) = move_fields(first >= SIGN_BIT, fields(a, b), by);
-    let sign = first - first % SIGN_BIT;
+    let (moved, overflow) = move_fields(first >= SIGN, fields(a, b), by);
+    let sign = first - first % SIGN;
     (
         sign + (moved >> 35) as u64,
-        sign + (moved % SIGN_BIT as u128) as u64,
+        sign + (moved % SIGN as u128) as u64,
         overflow,
     )
 }
@@ -43,7 +42,7 @@ fn fields(a: u64, b: u64) -> u128
     ensures value { result ≡ beside a b }
     ensures narrow { result < 2 ^ 70 }
 {
-    (((a % SIGN_BIT) as u128) << 35) + (b % SIGN_BIT) as u128
+    (((a % SIGN) as u128) << 35) + (b % SIGN) as u128
 }
 
 /// The 70 bits moved, and Overflow.
@@ -73,19 +72,19 @@ fn move_fields_left(minus: bool, field: u128, n: u64) -> (u128, bool)
     }
 }
 
-/// To the right, with the sign in the positions that fall empty. After 70 positions there is only the sign.
+/// To the right, with the sign in the places that fall empty. After 70 places there is only the sign.
 fn move_fields_right(minus: bool, field: u128, n: u64) -> u128
     requires { field < 2 ^ 70 }
     ensures { result ≡ moved_beside 70 minus field (Right n) }
 {
-    let positions = n.min(70);
-    (field >> positions) + (signs(minus, positions) << (70 - positions))
+    let places = n.min(70);
+    (field >> places) + (signs(minus, places) << (70 - places))
 }
 
-/// As many bits as there are positions, each equal to the sign.
-fn signs(minus: bool, positions: u64) -> u128
-    requires { positions ≤ 70 }
-    ensures { result ≡ (if minus then 2 ^ positions - 1 else 0) }
+/// As many bits as there are places, each equal to the sign.
+fn signs(minus: bool, places: u64) -> u128
+    requires { places ≤ 70 }
+    ensures { result ≡ (if minus then 2 ^ places - 1 else 0) }
 {
-    if minus { (1 << positions) - 1 } else { 0 }
+    if minus { (1 << places) - 1 } else { 0 }
 }

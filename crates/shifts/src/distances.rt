@@ -1,9 +1,7 @@
-//! How far a word is moved, and which way.
-
-ghost use Rattle.shifts.specs.Distance.{positions};
+ghost use Rattle.shifts.specs.Distance.{places};
 ghost use Rattle.std.specs.Prelude.{◌≡◌};
 
-/// Which way, and how many positions, a shift or a rotation moves its word.
+/// Which way, and how many places, a shift or a rotation moves its word.
 #[derive(Clone, Copy)]
 pub enum Distance {
     Left(u64),
@@ -11,9 +9,9 @@ pub enum Distance {
 }
 
 impl Distance {
-    /// How many positions, whichever way.
-    pub(crate) fn positions(self) -> u64
-        ensures { result ≡ positions self }
+    /// How many places, whichever way.
+    pub(crate) fn places(self) -> u64
+        ensures { result ≡ places self }
     {
         match self {
             Distance::Left(n) => n,

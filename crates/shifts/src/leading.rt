@@ -1,5 +1,3 @@
-//! The count of leading zeros.
-
 ghost use Rattle.std.specs.Prelude.{◌≡◌, ◌<◌};
 ghost use Rattle.shifts.specs.Leading.{zeros_ahead, FirstOneAt};
 ghost use Rattle.shifts.specs.Specimens.{LeadingSpecimens};

@@ -19,3 +19,29 @@ pub use effective_address::distance;
 pub use leading::first_one;
 pub use logical::{lsh, lshc};
 pub use rotation::{rot, rotc};
+
+#[cfg(test)]
+mod tests {
+    use super::*;
+
+    #[test]
+    fn one_word(rt: HostRuntime) {
+        assert_eq!(rt; lsh(0o777777_777777, 0o777756), 0o777777);
+        assert_eq!(rt; rot(1, 0o777777), 0o400000_000000);
+        assert_eq!(rt; first_one(1), 0o43);
+        let (least, fits) = ash(0o777777_777777, 35);
+        let (same, overflow) = ash(0o777777_777777, 36);
+        assert_eq!(rt; least, same);
+        assert!(rt; !fits && overflow);
+    }
+
+    #[test]
+    fn two_words(rt: HostRuntime) {
+        let (carried, emptied) = lshc(0, 0o400000_000000, 1);
+        assert!(rt; carried == 1 && emptied == 0);
+        let (turned, left) = rotc(0, 1, 0o777777);
+        assert!(rt; turned == 0o400000_000000 && left == 0);
+        let (first, second, overflow) = ashc(0o777777_777777, 0, 0o777777);
+        assert!(rt; first == 0o777777_777777 && second == 0o600000_000000 && !overflow);
+    }
+}

@@ -1,7 +1,5 @@
-//! The rotations, of one word and of two.
-
 ghost use Rattle.std.specs.Prelude.{◌≡◌, ◌-◌, ◌%◌, ◌^◌, ◌<◌, ◌≤◌};
-ghost use Rattle.shifts.specs.Distance.{MovesNothing};
+ghost use Rattle.shifts.specs.Distance.{NoPlace};
 ghost use Rattle.shifts.specs.Rotations.{exchanged, rotated, rotated_pair, turned, RotatedPairThereAndBack, RotatedThereAndBack};
 ghost use Rattle.shifts.specs.Specimens.{RotatedPairSpecimens, RotatedSpecimens};
 
@@ -15,7 +13,7 @@ pub fn rot(w: u64, e: u64) -> u64
     ensures value { result ≡ rotated w e }
     ensures narrow { result < 2 ^ 36 }
     ensures back { RotatedThereAndBack w e result }
-    ensures still { MovesNothing e → result ≡ w % 2 ^ 36 }
+    ensures still { NoPlace e → result ≡ w % 2 ^ 36 }
     ensures specimens { RotatedSpecimens }
 {
     turn_word(w % WORD_LIMIT, distance(e))
@@ -26,13 +24,13 @@ pub fn rotc(a: u64, b: u64, e: u64) -> (u64, u64)
     ensures value { result ≡ rotated_pair a b e }
     ensures narrow { (result.0 < 2 ^ 36) × (result.1 < 2 ^ 36) }
     ensures back { RotatedPairThereAndBack a b e result }
-    ensures still { MovesNothing e → result ≡ (a % 2 ^ 36, b % 2 ^ 36) }
+    ensures still { NoPlace e → result ≡ (a % 2 ^ 36, b % 2 ^ 36) }
     ensures specimens { RotatedPairSpecimens }
 {
     split(turn_pair(join(a, b), distance(e)))
 }
 
-/// A word rotated. To the right by some positions is to the left by the rest of the 36.
+/// A word rotated. To the right by some places is to the left by the rest of the 36.
 fn turn_word(word: u64, by: Distance) -> u64
     requires { word < 2 ^ 36 }
     ensures { result ≡ turned 36 word by }

@@ -1,10 +1,10 @@
 -- What a core answers at an address in a window, the window answers.
-use Rattle.std.proofs.Common.{◌≡◌, ℕ, ◌+◌, ◌-◌, ◌<◌, ◌≤◌, min, List, length, take, drop, set, Ok, Err, Result, sym, refl, ap, ◌∙◌, ⊎_elim, arith}
+use Rattle.std.proofs.Common.{◌≡◌, ℕ, ◌+◌, ◌-◌, ◌<◌, ◌≤◌, min, List, length, take, drop, Ok, Err, Result, sym, ap, ◌∙◌, ⊎_elim, arith}
 use Rattle.memory.specs.Access.{Reads, Writes}
 use Rattle.std.proofs.lemmas.List.{take_all, drop_all, length-drop}
 use Rattle.std.proofs.lemmas.Bool.{cases_lt}
 use Rattle.window.specs.Windows.{window_of, words_before, words_after, length-window, get_d_window, set-window, before-set, after-set}
-use Rattle.refusals.specs.declared.refusal.Refusal.{Refusal}
+use Rattle.words.specs.declared.refusal.Refusal.{Refusal}
 
 module _ (f n : ℕ) (ws : List ℕ) (a : ℕ) (l : a < n) where
   pub reads-window : (r : Result ℕ Refusal) → Reads ws (f + a) r → Reads (window_of f n ws) a r

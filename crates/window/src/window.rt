@@ -7,8 +7,7 @@ ghost use Rattle.std.specs.Borrow.{GName};
 
 use crate::span::Span;
 use memory::Core;
-use refusals::Refusal;
-use words::WORD_LIMIT;
+use words::{Refusal, WORD_LIMIT};
 
 /// The words of a lent core that lie in a span. What of the span is past the core's end is not there.
 #[derive(Drop)]

@@ -1,4 +1,4 @@
 pub mod Bits
-pub mod Halves
+pub mod Refusals
 pub mod Signed
 pub mod Word

@@ -1,8 +1,8 @@
 -- A word is a whole number below 2^36.
-use Rattle.std.specs.Prelude.{◌≡◌, ℕ, suc, ◌^◌, ◌<◌, ◌≤◌, Bool, true, ◌&&◌, ltb, List, [], ◌∷◌, length, nat_lt, slice_index, refl}
+use Rattle.std.specs.Prelude.{◌≡◌, ℕ, ◌^◌, ◌<◌, ◌≤◌, Bool, true, ◌&&◌, ltb, List, [], ◌∷◌, length, nat_lt, slice_index, refl}
 use Rattle.std.proofs.ByRecursion.{All-get_or, Decides-by_and}
 use Rattle.std.proofs.lemmas.List.{get_or_past}
-use Rattle.std.proofs.lemmas.Bool.{cases_lt, and_from, lt-ltb}
+use Rattle.std.proofs.lemmas.Bool.{cases_lt}
 use Rattle.std.proofs.lemmas.Bool.Decides.{Decides-ltb}
 use Rattle.std.proofs.Common.{⊎_elim, arith}
 
@@ -25,7 +25,3 @@ word_at ns i e l =
 
 pub narrow-words : (ns : List ℕ) → are_words ns ≡ true → Narrow ns
 narrow-words ns e = narrow_within ns (λ a l. word_at ns a e l)
-
-pub words-from-narrow : (ns : List ℕ) → Narrow ns → are_words ns ≡ true
-words-from-narrow [] h = refl
-words-from-narrow (n ∷ ns) h = and_from (nat_lt n (2 ^ 36)) (are_words ns) (lt-ltb n (2 ^ 36) (h 0)) (words-from-narrow ns (λ a. h (suc a)))

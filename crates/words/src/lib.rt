@@ -1,12 +1,9 @@
-//! The 36-bit word of the PDP-10: its size, its bits, its sign and its two halves. Every function on words takes any
-//! `u64` and works on its low 36 bits.
+//! The 36-bit word of the PDP-10, and the refusals that every layer above shares.
 
 #![tactic(auto)]
 
-mod bits;
-mod halves;
+mod refusal;
 mod word;
 
-pub use bits::{SIGN_BIT, complement, is_negative};
-pub use halves::{HALF_LIMIT, from_halves, left, right, swap};
+pub use refusal::Refusal;
 pub use word::{WORD_LIMIT, all_words};

@@ -1,5 +1,3 @@
-//! What a word is.
-
 ghost use Rattle.words.specs.Word.{are_words};
 ghost use Rattle.std.specs.Prelude.{◌≡◌};
 

@@ -1,4 +1,4 @@
-use Rattle.std.proofs.Common.{◌≡◌, ◌+◌, ◌<◌, ◌≤◌, length, ◌∙◌, arith, below_more}
+use Rattle.std.proofs.Common.{◌<◌, length, ◌∙◌, arith, below_more}
 use Rattle.decks.proofs.beginning.accumulators.Goals as goal
 use Rattle.std.proofs.lemmas.List.{length-set, get_or-set_same, get_or-set_other}
 use Rattle.words.specs.Word.{narrow_within}

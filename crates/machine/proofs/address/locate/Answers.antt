@@ -14,13 +14,13 @@ returns-then-register-eq0 c =
 pub returns-else-register-eq0 : goal.returns-else-register-eq0
 unfolding word_address flag_word_of located
 returns-else-register-eq0 c =
-    let s : length c.args.accumulators.now.words ≡ 16 = search rules in
-    let p = c.args.accumulators.now in
+    let s : length c.args.space.now.accumulators ≡ 16 = search rules in
+    let p = c.args.space.now in
     let x : c.args.word / 2 ^ 18 % 16 < 16 = omega arith in
     let f = c.index-register.ensures in
     let some = ne_eqb (index c.args.word) 0 (λ z. c.if-register-eq0.false (f ∙ z)) in
     record {
-      value = λ ws. let v = user-low p.words ws s (c.args.word / 2 ^ 18 % 16) x in rw (f, some, v);
-      address = λ ws. let v = user-low p.words ws s (c.args.word / 2 ^ 18 % 16) x in rw (f, some, v);
+      value = λ ws. let v = user-low p.accumulators p.base p.blocks ws s (c.args.word / 2 ^ 18 % 16) x in rw (f, some, v);
+      address = λ ws. let v = user-low p.accumulators p.base p.blocks ws s (c.args.word / 2 ^ 18 % 16) x in rw (f, some, v);
       narrow = omega arith;
     }

@@ -1,11 +1,13 @@
 use Rattle.std.proofs.Common.{◌≡◌, ◌-◌, ◌≤◌}
 use Rattle.machine.proofs.stepping.run.Given as goal
 use Rattle.machine.specs.Steps.{state, later, run_of}
+use Rattle.machine.specs.User.{Kept}
 
 abbrev pub invariant-loop-done : goal.invariant-loop-done
 invariant-loop-done g l =
     (l.done ≤ l.most)
-    × (later l.done (run_of (l.most - l.done) (state l.program (g.C.Core.words l.core))) ≡ run_of l.most (state l.initial.program (g.C.Core.words l.initial.core)))
+    × (later l.done (run_of (l.most - l.done) (state l.place (g.C.Core.words l.core))) ≡ run_of l.most (state l.initial.place (g.C.Core.words l.initial.core)))
+    × Kept l.initial.place.space (g.C.Core.words l.initial.core) l.place.space (g.C.Core.words l.core)
     × (g.C.Core.rest l.core ≡ g.C.Core.rest l.initial.core)
 
 abbrev pub decreases-loop-done : goal.decreases-loop-done

@@ -1,4 +1,4 @@
-use Rattle.std.proofs.Common.{◌≡◌, ◌+◌, ◌-◌, ◌*◌, ◌/◌, ◌<◌, ◌≤◌, length, drop, sym, refl, ap, ◌∙◌, arith}
+use Rattle.std.proofs.Common.{◌≡◌, ◌+◌, ◌-◌, ◌*◌, ◌/◌, ◌<◌, length, sym, refl, ap, ◌∙◌, arith}
 use Rattle.packed.proofs.Pairwise.{nine-more, nines-all}
 use Rattle.packed.proofs.RoundTrips.{unpack-pack}
 use Rattle.packed.proofs.packing.pack.Goals as goal

@@ -3,7 +3,7 @@ use Rattle.shifts.proofs.Examples.{arithmetic-so}
 use Rattle.shifts.proofs.Scaling.{arithmetic-below, arithmetic-scales, arithmetic-sign, arithmetic-still}
 use Rattle.shifts.proofs.arithmetic.ash.Goals as goal
 use Rattle.shifts.specs.Arithmetic.{arithmetic, moved_beside, overflows, SignStays}
-use Rattle.words.specs.Signed.{is_negative}
+use Rattle.words.specs.Signed.{is_negative as negative}
 use Rattle.shifts.specs.Distance.{distance_of}
 use Rattle.shifts.specs.Scaling.{ArithmeticScales}
 use Rattle.shifts.specs.declared.distances.Distance.{Distance}
@@ -13,7 +13,7 @@ unfolding arithmetic
 returns c =
     let w = c.args.w in
     let e = c.args.e in
-    let both : ℕ → Distance → ℕ × Bool = λ m d. (moved_beside 35 (is_negative w) m d, overflows 35 (is_negative w) m d) in
+    let both : ℕ → Distance → ℕ × Bool = λ m d. (moved_beside 35 (negative w) m d, overflows 35 (negative w) m d) in
     let q : c.move_field-moved.result ≡ both (w % 2 ^ 35) (distance_of e) = c.move_field-moved.ensures ∙ ap₂ both (omega arith) c.distance.ensures.value in
     let above : ℕ → ℕ × Bool → ℕ × Bool = λ x p. (x + p.0, p.1) in
     let v : above (w % 2 ^ 36 - w % 2 ^ 36 % 2 ^ 35) c.move_field-moved.result ≡ arithmetic w e = ap₂ above (omega arith) q in

@@ -3,7 +3,7 @@ use Rattle.shifts.proofs.Examples.{logical_pair-so}
 use Rattle.shifts.proofs.Shifting.{logical_pair-below, logical_pair-back, logical_pair-still}
 use Rattle.shifts.proofs.logical.lshc.Goals as goal
 use Rattle.shifts.specs.Logical.{shifted, logical_pair, LogicalPairThereAndBack}
-use Rattle.shifts.specs.Pair.{unpaired}
+use Rattle.shifts.specs.Pair.{halves}
 
 pub returns : goal.returns
 unfolding logical_pair
@@ -12,7 +12,7 @@ returns c =
     let b = c.args.b in
     let e = c.args.e in
     let v : c.split.result ≡ logical_pair a b e =
-    c.split.ensures ∙ ap unpaired (c.shift_pair.ensures ∙ ap₂ (shifted 72) c.join.ensures.value c.distance.ensures.value) in
+    c.split.ensures ∙ ap halves (c.shift_pair.ensures ∙ ap₂ (shifted 72) c.join.ensures.value c.distance.ensures.value) in
     record {
       value = v;
       narrow = subst (λ (r : ℕ × ℕ). (r.0 < 2 ^ 36) × (r.1 < 2 ^ 36)) (sym v) (logical_pair-below a b e);

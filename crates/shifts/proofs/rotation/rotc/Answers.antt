@@ -2,7 +2,7 @@ use Rattle.std.proofs.Common.{◌≡◌, ℕ, ◌^◌, ◌<◌, sym, ap, ◌∙�
 use Rattle.shifts.proofs.Examples.{rotated_pair-so}
 use Rattle.shifts.proofs.Turning.{turned-below, rotated_pair-below, rotated_pair-back, rotated_pair-still}
 use Rattle.shifts.proofs.rotation.rotc.Goals as goal
-use Rattle.shifts.specs.Pair.{unpaired}
+use Rattle.shifts.specs.Pair.{halves}
 use Rattle.shifts.specs.Rotations.{turned, rotated_pair, RotatedPairThereAndBack}
 
 pub split-requires : goal.split-requires
@@ -16,7 +16,7 @@ returns c =
     let b = c.args.b in
     let e = c.args.e in
     let v : c.split.result ≡ rotated_pair a b e =
-    c.split.ensures ∙ ap unpaired (c.turn_pair.ensures ∙ ap₂ (turned 72) c.join.ensures.value c.distance.ensures.value) in
+    c.split.ensures ∙ ap halves (c.turn_pair.ensures ∙ ap₂ (turned 72) c.join.ensures.value c.distance.ensures.value) in
     record {
       value = v;
       narrow = subst (λ (r : ℕ × ℕ). (r.0 < 2 ^ 36) × (r.1 < 2 ^ 36)) (sym v) (rotated_pair-below a b e);

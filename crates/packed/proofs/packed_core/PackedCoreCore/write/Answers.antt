@@ -1,4 +1,4 @@
-use Rattle.std.proofs.Common.{◌≡◌, ◌*◌, ◌/◌, ◌<◌, length, ap, ◌∙◌, arith, rules}
+use Rattle.std.proofs.Common.{◌*◌, ◌/◌, ◌<◌, length, ap, ◌∙◌, arith, rules}
 use Rattle.memory.specs.Cut.{cut, cuts, length_cut, set-cut}
 use Rattle.packed.proofs.Places.{unpack-put_word, left_over-put_word}
 use Rattle.packed.proofs.packed_core.PackedCoreCore.write.Goals as goal

@@ -1,4 +1,4 @@
-use Rattle.std.proofs.Common.{◌≡◌, ◌<◌, length, arith}
+use Rattle.std.proofs.Common.{◌<◌, length, arith}
 use Rattle.pairs.proofs.InterleavedLaws.{writes-even, writes-odd, keeps-even, keeps-odd}
 use Rattle.pairs.proofs.interleaved.InterleavedCore.write.Goals as goal
 use Rattle.pairs.specs.Interleaving.{interleaved_words}

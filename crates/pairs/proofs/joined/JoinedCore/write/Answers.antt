@@ -1,4 +1,4 @@
-use Rattle.std.proofs.Common.{◌≡◌, ◌-◌, ◌<◌, ◌≤◌, length, arith, rules}
+use Rattle.std.proofs.Common.{◌-◌, ◌<◌, ◌≤◌, length, arith, rules}
 use Rattle.memory.specs.Access.{Writes}
 use Rattle.memory.specs.Cut.{cuts}
 use Rattle.pairs.proofs.JoinedLaws.{writes-low, writes-high, keeps_low, keeps_high}

@@ -2,7 +2,7 @@ use Rattle.window.proofs.Apart.{unseen}
 use Rattle.window.proofs.WindowLaws.{writes-window, before-window, after-window}
 use Rattle.window.proofs.window.WindowCore.write.Goals as goal
 use Rattle.window.specs.Windows.{length-window}
-use Rattle.std.proofs.Common.{◌≡◌, rules}
+use Rattle.std.proofs.Common.{rules}
 
 pub returns-then-a-self : goal.returns-then-a-self
 returns-then-a-self g c = search (rules, length-window)

@@ -1,4 +1,0 @@
-pub mod Calls
-pub mod Jumps
-pub mod Pushdown
-pub mod Subroutines

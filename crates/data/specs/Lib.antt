@@ -1,4 +1,0 @@
-pub mod Booleans
-pub mod HalfWords
-pub mod Moves
-pub mod Tests

@@ -1,5 +1,0 @@
-use Rattle.flags.proofs.change.clear.Goals as goal
-use Rattle.std.proofs.lemmas.Nat.{and_le_l}
-
-pub overflow_sub-result : goal.overflow_sub-result
-overflow_sub-result c = and_le_l c.args.flags c.args.which

@@ -1,0 +1,109 @@
+//! The comparisons, and the counts that end in one.
+
+ghost use Rattle.std.specs.Prelude.{◌≡◌, ◌^◌, ◌<◌};
+ghost use Rattle.instructions.specs.Compares.{aoj_of, aos_of, cai_of, cam_of, count_and_jump, count_and_skip, jump_of, skip_of, soj_of, sos_of};
+ghost use Rattle.instructions.specs.Narrow.{NarrowEffect};
+
+use crate::results::{after_sum, jump_if, skip_if, to_a, unless_zero, wordless};
+use arithmetic::{Condition, decrement, holds, increment};
+use operations::{Effect, Inputs, Status};
+
+/// CAI: skips by the accumulator and the word 0,,E.
+pub(crate) fn cai_effect(condition: Condition, given: Inputs, status: Status) -> Effect
+    ensures value { result ≡ cai_of condition given status }
+    ensures narrow { NarrowEffect result }
+{
+    wordless(skip_if(holds(condition, given.ac, given.e), status))
+}
+
+/// CAM: skips by the accumulator and the word at E.
+pub(crate) fn cam_effect(condition: Condition, given: Inputs, status: Status) -> Effect
+    ensures value { result ≡ cam_of condition given status }
+    ensures narrow { NarrowEffect result }
+{
+    wordless(skip_if(holds(condition, given.ac, given.operand), status))
+}
+
+/// JUMP: jumps by the accumulator and 0.
+pub(crate) fn jump_effect(condition: Condition, given: Inputs, status: Status) -> Effect
+    ensures value { result ≡ jump_of condition given status }
+    ensures narrow { NarrowEffect result }
+{
+    wordless(jump_if(holds(condition, given.ac, 0), given.e, status))
+}
+
+/// SKIP: skips by the word at E and 0.
+pub(crate) fn skip_effect(condition: Condition, given: Inputs, status: Status) -> Effect
+    ensures value { result ≡ skip_of condition given status }
+    ensures narrow { given.operand < 2 ^ 36 → NarrowEffect result }
+{
+    Effect {
+        store: None,
+        a: unless_zero(given.field, given.operand),
+        a1: None,
+        status: skip_if(holds(condition, given.operand, 0), status),
+        stop: None,
+    }
+}
+
+/// A count of the accumulator, which jumps by the result and 0.
+fn count_and_jump(condition: Condition, sum: (u64, bool, bool), e: u64, status: Status) -> Effect
+    ensures value { result ≡ count_and_jump condition sum e status }
+    ensures narrow { sum.0 < 2 ^ 36 → NarrowEffect result }
+{
+    to_a(
+        sum.0,
+        jump_if(holds(condition, sum.0, 0), e, after_sum(sum, status)),
+    )
+}
+
+/// AOJ: the accumulator plus 1.
+pub(crate) fn aoj_effect(condition: Condition, given: Inputs, status: Status) -> Effect
+    ensures value { result ≡ aoj_of condition given status }
+    ensures narrow { NarrowEffect result }
+{
+    count_and_jump(condition, increment(given.ac), given.e, status)
+}
+
+/// SOJ: the accumulator less 1.
+pub(crate) fn soj_effect(condition: Condition, given: Inputs, status: Status) -> Effect
+    ensures value { result ≡ soj_of condition given status }
+    ensures narrow { NarrowEffect result }
+{
+    count_and_jump(condition, decrement(given.ac), given.e, status)
+}
+
+/// A count of the word at E, which skips by the result and 0.
+fn count_and_skip(
+    condition: Condition,
+    sum: (u64, bool, bool),
+    given: Inputs,
+    status: Status,
+) -> Effect
+    ensures value { result ≡ count_and_skip condition sum given status }
+    ensures narrow { sum.0 < 2 ^ 36 → NarrowEffect result }
+{
+    Effect {
+        store: Some((given.e, sum.0)),
+        a: unless_zero(given.field, sum.0),
+        a1: None,
+        status: skip_if(holds(condition, sum.0, 0), after_sum(sum, status)),
+        stop: None,
+    }
+}
+
+/// AOS: the word at E plus 1.
+pub(crate) fn aos_effect(condition: Condition, given: Inputs, status: Status) -> Effect
+    ensures value { result ≡ aos_of condition given status }
+    ensures narrow { NarrowEffect result }
+{
+    count_and_skip(condition, increment(given.operand), given, status)
+}
+
+/// SOS: the word at E less 1.
+pub(crate) fn sos_effect(condition: Condition, given: Inputs, status: Status) -> Effect
+    ensures value { result ≡ sos_of condition given status }
+    ensures narrow { NarrowEffect result }
+{
+    count_and_skip(condition, decrement(given.operand), given, status)
+}

@@ -1,0 +1,50 @@
+//! IDIV.
+
+ghost use Rattle.instructions.specs.Division.{divided_to, idiv_of, quotient_to};
+ghost use Rattle.arithmetic.specs.Division.{NarrowDivision};
+ghost use Rattle.std.specs.Prelude.{◌≡◌, ◌^◌, ◌<◌};
+ghost use Rattle.instructions.specs.Narrow.{NarrowEffect};
+
+use crate::results::{flagged, operand_of, to_memory, wordless};
+use arithmetic::{Division, OVERFLOW, divide};
+use operations::{Effect, Inputs, Mode, Status};
+
+/// The flag No Divide: a division was not done.
+const NO_DIVIDE: u64 = 0o000040;
+
+/// The quotient to where the mode puts it, and the remainder to A + 1 wherever the quotient goes to A.
+fn quotient_to(mode: Mode, e: u64, division: Division, status: Status) -> Effect
+    ensures value { result ≡ quotient_to mode e division status }
+    ensures narrow { division.quotient < 2 ^ 36 → division.remainder < 2 ^ 36 → NarrowEffect result }
+{
+    let quotient = division.quotient;
+    let remainder = Some(division.remainder);
+    match mode {
+        Mode::Basic | Mode::Immediate => Effect {
+            store: None,
+            a: Some(quotient),
+            a1: remainder,
+            status,
+            stop: None,
+        },
+        Mode::Memory => to_memory(e, quotient, status),
+        Mode::Both => Effect {
+            store: Some((e, quotient)),
+            a: Some(quotient),
+            a1: remainder,
+            status,
+            stop: None,
+        },
+    }
+}
+
+/// IDIV: the accumulator divided by the operand.
+pub(crate) fn idiv_effect(mode: Mode, given: Inputs, status: Status) -> Effect
+    ensures value { result ≡ idiv_of mode given status }
+    ensures narrow { NarrowEffect result }
+{
+    match divide(given.ac, operand_of(mode, given)) {
+        None => wordless(flagged(status.flags | (OVERFLOW | NO_DIVIDE), status)),
+        Some(division) => quotient_to(mode, given.e, division, status),
+    }
+}

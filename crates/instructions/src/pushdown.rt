@@ -1,0 +1,92 @@
+//! Pushdown lists.
+
+ghost use Rattle.std.specs.Prelude.{◌≡◌, ◌^◌, ◌<◌};
+ghost use Rattle.instructions.specs.Narrow.{NarrowEffect};
+ghost use Rattle.instructions.specs.Pushdown.{pop_of, popj_of, push_of, pushed, pushj_of, stop_at};
+
+use crate::pointers::{pointer_down, pointer_up};
+use crate::results::jumped;
+use crate::subroutines::{called, pc_word};
+use logic::{left, right};
+use operations::{Effect, Inputs, Status};
+use stops::Stop;
+
+/// The count with which a list is full, after a push.
+const FULL: u64 = 0;
+/// The count with which a list is empty, after a pop.
+const EMPTY: u64 = 0o777777;
+
+/// The stop where the count of a pointer has come to its end.
+fn stop_at(end: u64, pointer: u64) -> Option<Stop>
+    ensures { result ≡ stop_at end pointer }
+{
+    if left(pointer) == end {
+        Some(Stop::PushdownOverflow)
+    } else {
+        None
+    }
+}
+
+/// A word to where a pointer, already moved up, says.
+fn pushed(pointer: u64, word: u64, status: Status) -> Effect
+    ensures value { result ≡ pushed pointer word status }
+    ensures narrow { pointer < 2 ^ 36 → word < 2 ^ 36 → NarrowEffect result }
+{
+    Effect {
+        store: Some((right(pointer), word)),
+        a: Some(pointer),
+        a1: None,
+        status,
+        stop: stop_at(FULL, pointer),
+    }
+}
+
+/// PUSHJ: the PC word onto the list, and on at E.
+pub(crate) fn pushj_effect(given: Inputs, status: Status) -> Effect
+    ensures value { result ≡ pushj_of given status }
+    ensures narrow { NarrowEffect result }
+{
+    pushed(
+        pointer_up(given.ac),
+        pc_word(status),
+        called(given.e, status),
+    )
+}
+
+/// PUSH: the word at E onto the list.
+pub(crate) fn push_effect(given: Inputs, status: Status) -> Effect
+    ensures value { result ≡ push_of given status }
+    ensures narrow { given.operand < 2 ^ 36 → NarrowEffect result }
+{
+    pushed(pointer_up(given.ac), given.operand, status)
+}
+
+/// POP: the last word of the list to E.
+pub(crate) fn pop_effect(given: Inputs, status: Status) -> Effect
+    ensures value { result ≡ pop_of given status }
+    ensures narrow { given.operand < 2 ^ 36 → NarrowEffect result }
+{
+    let pointer = pointer_down(given.ac);
+    Effect {
+        store: Some((given.e, given.operand)),
+        a: Some(pointer),
+        a1: None,
+        status,
+        stop: stop_at(EMPTY, pointer),
+    }
+}
+
+/// POPJ: on at the right half of the last word of the list.
+pub(crate) fn popj_effect(given: Inputs, status: Status) -> Effect
+    ensures value { result ≡ popj_of given status }
+    ensures narrow { NarrowEffect result }
+{
+    let pointer = pointer_down(given.ac);
+    Effect {
+        store: None,
+        a: Some(pointer),
+        a1: None,
+        status: jumped(right(given.operand), status),
+        stop: stop_at(EMPTY, pointer),
+    }
+}

@@ -1,4 +1,0 @@
-pub mod Compares
-pub mod Division
-pub mod Shifts
-pub mod Sums

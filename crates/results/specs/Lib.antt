@@ -1,4 +1,0 @@
-pub mod Destinations
-pub mod Narrow
-pub mod Pointers
-pub mod Statuses
