@@ -1,7 +1,7 @@
 -- From the bytes of a block to the core that it lies in.
 use Rattle.std.proofs.Common.{◌≡◌, ℕ, ◌+◌, ◌-◌, ◌*◌, ◌<◌, ◌≤◌, List, ◌++◌, length, get_or, take, drop, sym, ap, ◌∙◌, subst, arith, take-add}
 use Rattle.operations.specs.declared.effect.Status.{Status}
-use Rattle.ka10.proofs.Blocks.{unpack-take, unpack-drop}
+use Rattle.packed.proofs.Parts.{unpack-take, unpack-drop}
 use Rattle.ka10.specs.Calls.{lent, outcome, record_after, Done}
 use Rattle.ka10.specs.declared.records.Record.{Record}
 use Rattle.machine.specs.Steps.{machine, run_of, Replied, replied}

@@ -30,7 +30,7 @@ takes-more a b c d e f g h i bs again zero = refl
 takes-more a b c d e f g h i bs again (suc n) = rw (nine n, two n) (ap (λ (t : List ℕ). even a b c d e ∷ odd e f g h i ∷ t) (again n))
 
 -- the words of the first n nines are the first 2 n words
-unpack-take : (bs : List ℕ) → TakesWords bs
+pub unpack-take : (bs : List ℕ) → TakesWords bs
 unpack-take = by-nines TakesWords takes-short takes-more
 
 abbrev DropsWords : List ℕ → Type 0
@@ -47,7 +47,7 @@ drops-more a b c d e f g h i bs again zero = refl
 drops-more a b c d e f g h i bs again (suc n) = rw (nine n, two n) (again n)
 
 -- the words past the first n nines are those past the first 2 n words
-unpack-drop : (bs : List ℕ) → DropsWords bs
+pub unpack-drop : (bs : List ℕ) → DropsWords bs
 unpack-drop = by-nines DropsWords drops-short drops-more
 
 -- a part of a list that is cut off after it

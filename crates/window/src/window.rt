@@ -67,3 +67,25 @@ impl<'a, C: Core> Core for Window<'a, C> {
         self.core.write(self.span.from + a, w)
     }
 }
+
+#[cfg(test)]
+mod tests {
+    use super::*;
+    use memory::PlainCore;
+
+    // Words 1 and 2 of four, and what of a span lies past the core's end is not there.
+    #[test]
+    fn a_window_is_a_part_of_its_core(rt: HostRuntime) {
+        let mut cells = [10, 11, 12, 13];
+        let mut core = PlainCore::new(&mut cells);
+        let mut window = Window::new(&mut core, Span::new(1, 2));
+        assert_eq!(rt; window.len(), 2);
+        assert_eq!(rt; window.read(0), Ok(11));
+        assert_eq!(rt; window.read(2), Err(Refusal::AddressOutsideCore));
+        assert_eq!(rt; window.write(1, 7), Ok(()));
+        assert_eq!(rt; window.write(2, 7), Err(Refusal::AddressOutsideCore));
+        assert_eq!(rt; window.write(2, WORD_LIMIT), Err(Refusal::NotAWord));
+        assert_eq!(rt; Window::new(&mut core, Span::new(3, u64::MAX)).len(), 1);
+        assert_eq!(rt; cells, [10, 11, 7, 13]);
+    }
+}
