@@ -1,9 +1,8 @@
 -- The division of magnitudes, with the signs put back, is the division of the signed values that drops the fraction.
-use Rattle.std.proofs.Common.{◌≡◌, ℕ, zero, suc, ◌+◌, ◌-◌, ◌*◌, ◌/◌, ◌%◌, ◌^◌, ◌<◌, ◌≤◌, Bool, true, false, cond, ◌&&◌, eqb, leb, ◌⊎◌, ℤ, pos, ◌+ℤ◌, ◌*ℤ◌, neg_ℤ, nat_abs, Some, None, Option, sym, refl, ap, ◌∙◌, inl, inr, ⊎_elim, mul-zero, zero-mul, arith}
+use Rattle.std.proofs.Common.{◌≡◌, ℕ, zero, suc, ◌+◌, ◌-◌, ◌*◌, ◌/◌, ◌%◌, ◌^◌, ◌<◌, ◌≤◌, Bool, true, false, cond, ◌&&◌, eqb, leb, ◌⊎◌, ℤ, pos, ◌+ℤ◌, ◌*ℤ◌, neg_ℤ, nat_abs, Some, None, Option, sym, refl, ap, ◌∙◌, subst, inl, inr, ⊎_elim, mul-zero, zero-mul, arith}
 use Rattle.arithmetic.proofs.SignedLaws.{signed_reads}
-use Rattle.arithmetic.specs.Division.{magnitude_of, signed_word, no_divide, divided_by, division_of, Refused, Divided, DivisionLaw}
-use Rattle.words.specs.Signed.{is_negative}
-use Rattle.words.specs.Signed.{signed}
+use Rattle.arithmetic.specs.Division.{magnitude_of, signed_word, no_divide, division_of, Refused, Divided, DivisionLaw}
+use Rattle.words.specs.Signed.{is_negative, signed}
 use Rattle.std.proofs.lemmas.Nat.{div-add-mod', div_below, mod_below}
 use Rattle.std.proofs.lemmas.Bool.{leb-true, leb-false, eqb-true, and_parts, or_cases, cases_eq}
 use Rattle.std.proofs.lemmas.Bool.Decides.{nat_tests}
@@ -109,7 +108,7 @@ refused x y e =
 abbrev Apart : ℕ → ℕ → Type 0
 Apart m n = (0 < n) × (m ≡ 2 ^ 35 → n ≡ 1 → ⊥)
 
-pub apart : (m n : ℕ) → no_divide m n ≡ false → Apart m n
+apart : (m n : ℕ) → no_divide m n ≡ false → Apart m n
 apart m n e = (grind (arith, nat_tests), grind (arith, nat_tests))
 
 one-away : (y : ℕ) → (signed y ≡ pos 1) ⊎ (signed y ≡ neg_ℤ (pos 1)) → magnitude_of y ≡ 1
@@ -152,18 +151,6 @@ law-at : (x y : ℕ) (t : Bool) → no_divide (magnitude_of x) (magnitude_of y) 
 law-at x y true e = refused x y e
 law-at x y false e = divided x y (apart (magnitude_of x) (magnitude_of y) e)
 
-pub division-law : (x y : ℕ) → DivisionLaw x y (division_of x y)
+pub division_law : (x y : ℕ) (r : Option Division) → r ≡ division_of x y → DivisionLaw x y r
 unfolding division_of
-division-law x y = law-at x y (no_divide (magnitude_of x) (magnitude_of y)) refl
-
--- the two answers of the code, from the signs and the magnitudes
-pub none_is : (x y m n : ℕ) → m ≡ magnitude_of x → n ≡ magnitude_of y → no_divide m n ≡ true → None ≡ division_of x y
-unfolding division_of
-none_is x y m n em en t = cc
-
-pub some_is : (x y m n : ℕ) (a b : Bool) (q r : ℕ) → m ≡ magnitude_of x → n ≡ magnitude_of y → a ≡ is_negative x → b ≡ is_negative y → no_divide m n ≡ false
-    → q ≡ signed_word (xor a b) (m / n) → r ≡ signed_word a (m % n) → ◌≡◌ {A = Option Division} (Some (record { quotient = q; remainder = r })) (division_of x y)
-unfolding division_of
-some_is x y m n a b q r em en ea eb t eq er =
-    let e : ◌≡◌ {A = Option Division} (Some (record { quotient = q; remainder = r })) (divided_by a m b n) = rw (t, eq, er) in
-    e ∙ cc
+division_law x y r e = subst (DivisionLaw x y) (sym e) (law-at x y (no_divide (magnitude_of x) (magnitude_of y)) refl)

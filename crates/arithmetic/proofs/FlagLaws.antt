@@ -1,21 +1,18 @@
 -- What the raising of a flag does to each bit.
-use Rattle.std.proofs.Common.{◌≡◌, ℕ, zero, suc, ◌/◌, ◌%◌, ◌^◌, ◌<◌, Bool, true, false, ◌&&◌, ◌||◌, eqb, sym, refl, ap, ◌∙◌, arith}
+use Rattle.std.proofs.Common.{◌≡◌, ℕ, ◌/◌, ◌%◌, ◌^◌, ◌<◌, max, Bool, true, false, ◌&&◌, ◌||◌, eqb, sym, refl, subst, ap, ◌∙◌, arith}
 use Rattle.arithmetic.specs.Flags.{raised, flags_after, is_set, FlagsLaw}
+use Rattle.std.specs.Int.{bit_at}
+use Rattle.std.proofs.lemmas.Bool.Decides.{nat_tests}
 use Rattle.std.proofs.lemmas.Nat.{or_shr, or_mod}
+use Rattle.std.proofs.lemmas.Nat.Bits.{bit_at-lt, bit_at_or}
 use lib.Bits.{bit_or, or_zero_r}
 use mathlib.Core.Bool.{xor, or-false, and-true, and-false}
 
-or-bits : (a b : ℕ) → a < 2 → b < 2 → eqb (bit_or a b) 1 ≡ (eqb a 1 || eqb b 1)
-or-bits zero zero p q = refl
-or-bits zero (suc zero) p q = refl
-or-bits (suc zero) zero p q = refl
-or-bits (suc zero) (suc zero) p q = refl
-or-bits (suc (suc a)) b p q = absurd (omega arith)
-or-bits zero (suc (suc b)) p q = absurd (omega arith)
-or-bits (suc zero) (suc (suc b)) p q = absurd (omega arith)
+either-one : (a b : ℕ) → a < 2 → b < 2 → eqb (max a b) 1 ≡ (eqb a 1 || eqb b 1)
+either-one a b p q = grind (arith, nat_tests)
 
 set-or : (k f m : ℕ) → is_set k (bit_or f m) ≡ (is_set k f || is_set k m)
-set-or k f m = rw (or_shr f m k, or_mod (f / 2 ^ k) (m / 2 ^ k) 1) (or-bits (f / 2 ^ k % 2) (m / 2 ^ k % 2) (omega arith) (omega arith))
+set-or k f m = rw (bit_at_or f m k) (either-one (bit_at f k) (bit_at m k) (bit_at-lt f k) (bit_at-lt m k))
 
 set-raised : (k : ℕ) (b : Bool) (flag f : ℕ) → is_set k (raised b flag f) ≡ (is_set k f || (b && is_set k flag))
 set-raised k true flag f = set-or k f flag
@@ -37,9 +34,9 @@ high-raised : (b : Bool) (flag f : ℕ) → flag / 2 ^ 18 ≡ 0 → raised b fla
 high-raised true flag f e = or_shr f flag 18 ∙ ap (bit_or (f / 2 ^ 18)) e ∙ or_zero_r (f / 2 ^ 18)
 high-raised false flag f e = refl
 
-pub flags-law : (f : ℕ) (c0 c1 : Bool) → FlagsLaw f c0 c1 (flags_after f c0 c1)
+flags_after-law : (f : ℕ) (c0 c1 : Bool) → FlagsLaw f c0 c1 (flags_after f c0 c1)
 unfolding flags_after
-flags-law f c0 c1 =
+flags_after-law f c0 c1 =
     let one = raised (xor c0 c1) 0o400000 f in
     let two = raised c0 0o200000 one in
     record {
@@ -50,6 +47,9 @@ flags-law f c0 c1 =
       above = high-raised c1 0o100000 two refl ∙ high-raised c0 0o200000 one refl ∙ high-raised (xor c0 c1) 0o400000 f refl;
     }
 
--- what has no bit above the flags stays so
-pub half : (f r : ℕ) → r / 2 ^ 18 ≡ f / 2 ^ 18 → f < 2 ^ 18 → r < 2 ^ 18
-half f r e h = omega arith
+pub flags_law : (f : ℕ) (c0 c1 : Bool) (r : ℕ) → r ≡ flags_after f c0 c1 → FlagsLaw f c0 c1 r
+flags_law f c0 c1 r e = subst (FlagsLaw f c0 c1) (sym e) (flags_after-law f c0 c1)
+
+-- flags stay a half of a word
+pub half : (f : ℕ) (c0 c1 : Bool) (r : ℕ) → r ≡ flags_after f c0 c1 → f < 2 ^ 18 → r < 2 ^ 18
+half f c0 c1 r e h = let same = (flags_law f c0 c1 r e).above in omega arith

@@ -1,5 +1,5 @@
 -- What the sum of two words and its carries tell of the sum of the signed values.
-use Rattle.std.proofs.Common.{◌≡◌, ℕ, ◌+◌, ◌-◌, ◌%◌, ◌^◌, ◌<◌, ◌≤◌, Bool, true, false, leb, ◌⊎◌, ℤ, pos, ◌+ℤ◌, ◌-ℤ◌, neg_ℤ, ◌≤ℤ◌, ◌<ℤ◌, MatchBool, refl, subst, inl, inr, ⊎_elim, arith}
+use Rattle.std.proofs.Common.{◌≡◌, ℕ, ◌+◌, ◌-◌, ◌%◌, ◌^◌, ◌<◌, ◌≤◌, Bool, true, false, leb, ◌⊎◌, ℤ, pos, ◌+ℤ◌, ◌-ℤ◌, neg_ℤ, ◌≤ℤ◌, ◌<ℤ◌, MatchBool, refl, sym, subst, inl, inr, ⊎_elim, arith}
 use Rattle.arithmetic.proofs.SignedLaws.{signed_reads}
 use Rattle.arithmetic.specs.Signed.{Representable}
 use Rattle.words.specs.Signed.{signed}
@@ -8,7 +8,6 @@ use Rattle.words.specs.Bits.{complement as complement_of}
 use Rattle.std.proofs.lemmas.Bool.{true≢false, false≢true, leb-true, le-leb}
 use Rattle.std.proofs.lemmas.Bool.Decides.{nat_tests}
 use borrow.Author.Differences.{ints}
-use mir.Val.{bool_byte}
 
 abbrev true_sum : ℕ → ℕ → ℕ → ℤ
 true_sum x y b = signed x +ℤ signed y +ℤ pos b
@@ -51,31 +50,29 @@ module _ (x y b : ℕ) (h : b < 2) where
 carried : (m n : ℕ) → MatchBool (leb m n) (m ≤ n) (n < m)
 carried m n = grind (arith, nat_tests)
 
-pub sum-law : (x y : ℕ) (c : Bool) → SumLaw x y c (add_words x y c)
+add_words-law : (x y : ℕ) (c : Bool) → SumLaw x y c (add_words x y c)
 unfolding add_words
-sum-law x y true = told x y 1 (omega arith) (leb (2 ^ 36) (whole_sum x y 1)) (leb (2 ^ 35) (low_sum x y 1)) (carried (2 ^ 36) (whole_sum x y 1)) (carried (2 ^ 35) (low_sum x y 1))
-sum-law x y false = told x y 0 (omega arith) (leb (2 ^ 36) (whole_sum x y 0)) (leb (2 ^ 35) (low_sum x y 0)) (carried (2 ^ 36) (whole_sum x y 0)) (carried (2 ^ 35) (low_sum x y 0))
+add_words-law x y true = told x y 1 (omega arith) (leb (2 ^ 36) (whole_sum x y 1)) (leb (2 ^ 35) (low_sum x y 1)) (carried (2 ^ 36) (whole_sum x y 1)) (carried (2 ^ 35) (low_sum x y 1))
+add_words-law x y false = told x y 0 (omega arith) (leb (2 ^ 36) (whole_sum x y 0)) (leb (2 ^ 35) (low_sum x y 0)) (carried (2 ^ 36) (whole_sum x y 0)) (carried (2 ^ 35) (low_sum x y 0))
 
--- the carry as the number that the code makes of it
-pub sum_is : (x y : ℕ) (c : Bool) → (whole_sum x y (bool_byte c) % 2 ^ 36, leb (2 ^ 36) (whole_sum x y (bool_byte c)), leb (2 ^ 35) (low_sum x y (bool_byte c))) ≡ add_words x y c
-unfolding add_words
-sum_is x y true = refl
-sum_is x y false = refl
+pub sum_law : (x y : ℕ) (c : Bool) (r : ℕ × Bool × Bool) → r ≡ add_words x y c → SumLaw x y c r
+sum_law x y c r e = subst (SumLaw x y c) (sym e) (add_words-law x y c)
 
-stands : (z : ℤ) (x y : ℕ) (c : Bool) → signed x +ℤ signed y +ℤ pos (bit c) ≡ z → StandsFor z (add_words x y c)
-stands z x y c e = subst (λ (t : ℤ). StandsFor t (add_words x y c)) e (sum-law x y c)
+-- the sum that r is stands for z, where z is the sum of the signed values
+stands : (z : ℤ) (x y : ℕ) (c : Bool) (r : ℕ × Bool × Bool) → r ≡ add_words x y c → signed x +ℤ signed y +ℤ pos (bit c) ≡ z → StandsFor z r
+stands z x y c r e s = subst (λ (t : ℤ). StandsFor t r) s (sum_law x y c r e)
 
-pub difference-law : (x y : ℕ) → DifferenceLaw x y (add_words x (complement_of y) true)
-difference-law x y = stands (signed x -ℤ signed y) x (complement_of y) true (omega (arith, ints, signed_reads y, signed_reads (complement_of y)))
+pub difference_law : (x y : ℕ) (r : ℕ × Bool × Bool) → r ≡ add_words x (complement_of y) true → DifferenceLaw x y r
+difference_law x y r e = stands (signed x -ℤ signed y) x (complement_of y) true r e (omega (arith, ints, signed_reads y, signed_reads (complement_of y)))
 
-pub negation-law : (x : ℕ) → NegationLaw x (add_words (complement_of x) 1 false)
-negation-law x = stands (neg_ℤ (signed x)) (complement_of x) 1 false (omega (arith, ints, signed_reads x, signed_reads 1, signed_reads (complement_of x)))
+pub negation_law : (x : ℕ) (r : ℕ × Bool × Bool) → r ≡ add_words (complement_of x) 1 false → NegationLaw x r
+negation_law x r e = stands (neg_ℤ (signed x)) (complement_of x) 1 false r e (omega (arith, ints, signed_reads x, signed_reads 1, signed_reads (complement_of x)))
 
-pub successor-law : (x : ℕ) → SuccessorLaw x (add_words x 1 false)
-successor-law x = stands (signed x +ℤ pos 1) x 1 false (omega (arith, ints, signed_reads 1))
+pub successor_law : (x : ℕ) (r : ℕ × Bool × Bool) → r ≡ add_words x 1 false → SuccessorLaw x r
+successor_law x r e = stands (signed x +ℤ pos 1) x 1 false r e (omega (arith, ints, signed_reads 1))
 
-pub predecessor-law : (x : ℕ) → PredecessorLaw x (add_words x (2 ^ 36 - 1) false)
-predecessor-law x = stands (signed x -ℤ pos 1) x (2 ^ 36 - 1) false (omega (arith, ints, signed_reads (2 ^ 36 - 1)))
+pub predecessor_law : (x : ℕ) (r : ℕ × Bool × Bool) → r ≡ add_words x (2 ^ 36 - 1) false → PredecessorLaw x r
+predecessor_law x r e = stands (signed x -ℤ pos 1) x (2 ^ 36 - 1) false r e (omega (arith, ints, signed_reads (2 ^ 36 - 1)))
 
 abbrev low_of_negation : ℕ → ℕ
 low_of_negation x = complement_of x % 2 ^ 35 + 1 + 0
@@ -88,10 +85,13 @@ carry-1-of : (x : ℕ) → (signed x ≡ pos 0) ⊎ (signed x ≡ neg_ℤ (pos (
 carry-1-of x h =
     ⊎_elim (λ (e : signed x ≡ pos 0). omega (arith, ints, signed_reads x)) (λ (e : signed x ≡ neg_ℤ (pos (2 ^ 35))). omega (arith, ints, signed_reads x)) h
 
-pub negation-carries : (x : ℕ) → NegationCarries x (add_words (complement_of x) 1 false)
+add_words-carries : (x : ℕ) → NegationCarries x (add_words (complement_of x) 1 false)
 unfolding add_words
-negation-carries x =
+add_words-carries x =
     let whole = whole_sum (complement_of x) 1 0 in (
       (λ e. omega (arith, ints, signed_reads x, leb-true (2 ^ 36) whole e), λ e. le-leb (2 ^ 36) whole (omega (arith, ints, signed_reads x))),
       (λ e. zero-or-least x (leb-true (2 ^ 35) (low_of_negation x) e), λ e. le-leb (2 ^ 35) (low_of_negation x) (carry-1-of x e)),
     )
+
+pub negation_carries : (x : ℕ) (r : ℕ × Bool × Bool) → r ≡ add_words (complement_of x) 1 false → NegationCarries x r
+negation_carries x r e = subst (NegationCarries x) (sym e) (add_words-carries x)

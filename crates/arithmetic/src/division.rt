@@ -2,8 +2,7 @@ ghost use Rattle.std.specs.Prelude.{◌≡◌, ◌^◌, ◌<◌, ◌≤◌};
 ghost use Rattle.arithmetic.specs.Division.{division_of, magnitude_of, no_divide, signed_word, DivisionLaw, NarrowDivision};
 ghost use Rattle.words.specs.Signed.{is_negative};
 
-use crate::SIGN_BIT;
-use words::WORD_LIMIT;
+use words::{SIGN_BIT, WORD_LIMIT, is_negative};
 
 /// What a division gives: two words, signed.
 #[derive(Clone, Copy, PartialEq, Eq, Debug)]
@@ -40,13 +39,6 @@ fn no_divide(whole: u64, part: u64) -> bool
     ensures { result ≡ no_divide whole part }
 {
     part == 0 || whole == SIGN_BIT && part == 1
-}
-
-/// Whether bit 0 of a word is set.
-fn is_negative(word: u64) -> bool
-    ensures { result ≡ is_negative word }
-{
-    word % WORD_LIMIT >= SIGN_BIT
 }
 
 /// The signed value without its sign: at most 2^35.

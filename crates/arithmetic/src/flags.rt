@@ -8,7 +8,8 @@ pub const CARRY_0: u64 = 0o200000;
 /// The flag Carry 1, bit 2 of the flags: there was a carry out of bit 1.
 pub const CARRY_1: u64 = 0o100000;
 
-/// The flags after a sum with these carries. A sum sets flags and clears none: a program clears them itself.
+/// The flags after a sum with these carries. A sum sets flags and clears none: a program clears them itself. The carries
+/// are all that counts of the sum, so its word is not asked for.
 pub fn flags_after(flags: u64, carry0: bool, carry1: bool) -> u64
     ensures value { result ≡ flags_after flags carry0 carry1 }
     ensures half { flags < 2 ^ 18 → result < 2 ^ 18 }

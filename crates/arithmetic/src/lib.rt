@@ -10,10 +10,7 @@ mod sums;
 #[cfg(test)]
 mod tests;
 
-pub use condition::{Condition, condition_of, holds};
+pub use condition::{Condition, holds};
 pub use division::{Division, divide};
 pub use flags::{CARRY_0, CARRY_1, OVERFLOW, flags_after};
 pub use sums::{add, decrement, increment, negate, subtract};
-
-/// Bit 0 of a word, the highest: it is set in a negative number.
-const SIGN_BIT: u64 = 1 << 35;

@@ -1,6 +1,5 @@
 use crate::{
-    CARRY_0, CARRY_1, Condition, Division, OVERFLOW, add, condition_of, divide, flags_after, holds,
-    negate,
+    CARRY_0, CARRY_1, Condition, Division, OVERFLOW, add, divide, flags_after, holds, negate,
 };
 
 /// −1.
@@ -12,14 +11,10 @@ const GREATEST: u64 = 0o377777_777777;
 
 #[test]
 fn sums_carry(rt: HostRuntime) {
-    let (sum, carry0, carry1) = add(GREATEST, 1, false);
-    assert!(rt; sum == LEAST && !carry0 && carry1);
-    let (sum, carry0, carry1) = add(ONES, ONES, false);
-    assert!(rt; sum == 0o777777_777776 && carry0 && carry1);
-    let (sum, carry0, carry1) = negate(0);
-    assert!(rt; sum == 0 && carry0 && carry1);
-    let (sum, carry0, carry1) = negate(LEAST);
-    assert!(rt; sum == LEAST && !carry0 && carry1);
+    assert_eq!(rt; add(GREATEST, 1, false), (LEAST, false, true));
+    assert_eq!(rt; add(ONES, ONES, false), (0o777777_777776, true, true));
+    assert_eq!(rt; negate(0), (0, true, true));
+    assert_eq!(rt; negate(LEAST), (LEAST, false, true));
 }
 
 #[test]
@@ -34,7 +29,7 @@ fn carries_raise_flags(rt: HostRuntime) {
 #[test]
 fn minus_one_is_less_than_zero(rt: HostRuntime) {
     assert!(rt; holds(Condition::Less, ONES, 0));
-    assert!(rt; !holds(condition_of(0o307), ONES, 0));
+    assert!(rt; !holds(Condition::from(0o307), ONES, 0));
 }
 
 #[test]

@@ -5,38 +5,18 @@
 
 use anyhow::anyhow;
 use decks::{accumulators, blocks_for, count_equal, read_deck, store};
-use machine::{Place, Space, run};
+use machine::{Place, Reply, Space, run};
 use memory::Core;
-use operations::Status;
-use packed::PackedCore;
+use operations::{Status, USER};
+use packed::{BLOCK_BYTES, PackedCore};
 use std::io::Read;
 use std::process::ExitCode;
-use stops::Stop;
-
-/// The bytes of a packed block of 1,024 words.
-const BLOCK_BYTES: usize = 4608;
 
 /// Where a deck's program begins.
 const START: u64 = 0o20;
 
-/// The flags that it begins with: User alone.
-const USER: u64 = 0o010000;
-
 /// How many steps it is given.
 const MOST_STEPS: u64 = 1_000_000;
-
-/// A stop in words.
-fn stop_name(stop: Stop) -> &'static str {
-    match stop {
-        Stop::StepsDone => "all steps done",
-        Stop::MonitorCall(_) => "monitor call",
-        Stop::NotInstalled(_) => "code not installed",
-        Stop::IllegalAddress(_) => "illegal address",
-        Stop::AddressWords => "too many address words",
-        Stop::ExecutedWords => "too many executed words",
-        Stop::PushdownOverflow => "pushdown overflow",
-    }
-}
 
 /// Runs the deck that the core holds, and prints how the run ended and which words of memory the program changed.
 fn run_deck(
@@ -58,21 +38,17 @@ fn run_deck(
         flags: USER,
     };
     let mut place = Place { space, status };
-    let reply = run(core, &mut place, MOST_STEPS);
-    let stop = reply.stop;
-    let steps = reply.steps;
+    let Reply { steps, stop } = run(core, &mut place, MOST_STEPS);
     let number = stop.number();
-    let name = stop_name(stop);
     let word = stop.word();
-    let pc = place.status.pc;
-    let flags = place.status.flags;
-    println!(rt; "run: {steps} steps, stop {number}: {name}")?;
+    let Status { pc, flags } = place.status;
+    println!(rt; "run: {steps} steps, stop {number}: {stop}")?;
     println!(rt; "word {word:012o}, PC {pc:06o}, flags {flags:06o}")?;
     for (address, was) in deck.iter().enumerate().skip(16) {
-        if let Ok(word) = core.read(address as u64) {
-            if word != *was {
-                println!(rt; "{address:06o}: {word:012o} = {word}")?;
-            }
+        if let Ok(word) = core.read(address as u64)
+            && word != *was
+        {
+            println!(rt; "{address:06o}: {word:012o} = {word}")?;
         }
     }
     Ok(())
@@ -82,10 +58,7 @@ fn carry(rt: &HostRuntime) -> anyhow::Result<()> {
     let heap = rt.alloc();
     let mut text = Vec::new(heap);
     rt.stdin().read_to_end(&mut text)?;
-    let deck = match read_deck(heap, text.as_slice()) {
-        Ok(deck) => deck,
-        Err(error) => return Err(anyhow!(format!(in heap; "{error}")?)),
-    };
+    let deck = read_deck(heap, text.as_slice())?;
     let count = deck.len();
     let blocks = blocks_for(count as u64);
     let size = blocks as usize * BLOCK_BYTES;
@@ -93,11 +66,11 @@ fn carry(rt: &HostRuntime) -> anyhow::Result<()> {
 
     let mut bytes = vec![in heap; 0u8; size]?;
     let mut core = PackedCore::new(bytes.as_mut_slice());
-    if let Err(refusal) = store(&mut core, deck.as_slice()) {
-        return Err(anyhow!(format!(in heap; "the core refused the deck: {refusal:?}")?));
-    }
+    store(&mut core, deck.as_slice()).map_err(|refusal| anyhow!(
+        "the core refused the deck: {refusal:?}"
+    ))?;
     let equal = count_equal(&core, deck.as_slice());
-    if let Some(pair) = bytes.get(0..9) {
+    if let Some(pair) = bytes.first_chunk::<9>() {
         print!(rt; "first pair:")?;
         for byte in pair {
             print!(rt; " {byte:02x}")?;

@@ -1,33 +1,26 @@
 -- Two lists of words compared address by address.
-use Rattle.std.proofs.Common.{◌≡◌, ℕ, ◌+◌, ◌<◌, ◌≤◌, Bool, cond, ◌&&◌, eqb, List, [], ◌∷◌, length, get_or, take, drop, sym, refl, ap, ◌∙◌, ⊎_elim, arith}
+use Rattle.std.proofs.Common.{◌≡◌, ℕ, ◌+◌, ◌≤◌, cond, List, [], ◌∷◌, length, take, drop, sym, refl, ap, ◌∙◌, arith}
+use Rattle.std.proofs.lemmas.List.Sums.{sum_by-cons}
+use Rattle.std.specs.List.{count_by, enumerate_from}
 use Rattle.decks.specs.Storing.{Begins, holds_at, agreeing}
 use Rattle.std.proofs.lemmas.List.{drop_more, drop_all}
-use Rattle.std.proofs.lemmas.Bool.{lt-ltb, le-ltb, cases_lt}
 use Rattle.std.proofs.lemmas.Bool.Decides.{nat_tests}
 
--- one address more, where b says whether the words are equal
-pub agreeing-more : (xs ws : List ℕ) (i : ℕ) (b : Bool) → b ≡ holds_at xs i (get_or ws i 0) → i < length ws → agreeing (drop i xs) (drop i ws) ≡ cond b 1 0 + agreeing (drop (i + 1) xs) (drop (i + 1) ws)
-agreeing-more xs ws i b e m =
-    let rest = agreeing (drop (i + 1) xs) (drop (i + 1) ws) in
-    let same = eqb (get_or xs i 0) (get_or ws i 0) in
-    ⊎_elim
-    (λ (l : i < length xs).
-    ap (λ t. agreeing t (drop i ws)) (drop_more xs i 0 l)
-    ∙ ap (agreeing (get_or xs i 0 ∷ drop (i + 1) xs)) (drop_more ws i 0 m)
-    ∙ ap (λ t. cond (t && same) 1 0 + rest) (sym (lt-ltb i (length xs) l)))
-    (λ (l : length xs ≤ i).
-    ap (λ t. agreeing t (drop i ws)) (drop_all i xs l)
-    ∙ sym (ap (λ t. 0 + agreeing t (drop (i + 1) ws)) (drop_all (i + 1) xs (omega arith)))
-    ∙ ap (λ t. cond (t && same) 1 0 + rest) (sym (le-ltb i (length xs) l)))
-    (cases_lt i (length xs))
-    ∙ ap (λ t. cond t 1 0 + rest) (sym e)
+-- one word more, at address i
+agreeing-more : (xs ws : List ℕ) (w i : ℕ) → agreeing (drop i xs) (w ∷ ws) ≡ cond (holds_at xs i w) 1 0 + agreeing (drop (i + 1) xs) ws
+agreeing-more xs ws w i = grind (arith, nat_tests, drop_more, drop_all)
 
 agreeing-none : (xs : List ℕ) → agreeing xs [] ≡ 0
 agreeing-none [] = refl
 agreeing-none (x ∷ xs) = refl
 
-pub agreeing-end : (xs ws : List ℕ) (i : ℕ) → length ws ≤ i → agreeing (drop i xs) (drop i ws) ≡ 0
-agreeing-end xs ws i l = ap (agreeing (drop i xs)) (drop_all i ws l) ∙ agreeing-none (drop i xs)
+count_from : (xs ws : List ℕ) (i : ℕ) → count_by (λ (p : ℕ × ℕ). holds_at xs p.0 p.1) (enumerate_from i ws) ≡ agreeing (drop i xs) ws
+count_from xs [] i = sym (agreeing-none (drop i xs))
+count_from xs (w ∷ ws) i = sum_by-cons (λ (p : ℕ × ℕ). cond (holds_at xs p.0 p.1) 1 0) (i, w) (enumerate_from (i + 1) ws) ∙ ap (λ n. cond (holds_at xs i w) 1 0 + n) (count_from xs ws (i + 1)) ∙ sym (agreeing-more xs ws w i)
+
+-- the words that stand at their addresses are those that agree
+pub count_by-holds_at : (xs ws : List ℕ) → count_by (λ (p : ℕ × ℕ). holds_at xs p.0 p.1) (enumerate_from 0 ws) ≡ agreeing xs ws
+count_by-holds_at xs ws = count_from xs ws 0
 
 agreeing-le : (xs ws : List ℕ) → agreeing xs ws ≤ length ws
 agreeing-le [] ws = omega arith

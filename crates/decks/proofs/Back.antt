@@ -1,10 +1,10 @@
 -- Words that were written out are read back.
-use Rattle.std.proofs.Common.{◌≡◌, ℕ, zero, suc, ◌+◌, ◌-◌, ◌*◌, ◌/◌, ◌%◌, ◌^◌, ◌<◌, ◌≤◌, true, ltb, leb, List, [], ◌∷◌, ◌++◌, length, Ok, Result, Vec, sym, ap, ◌∙◌, subst, pow-suc, add-one, arith}
+use Rattle.std.proofs.Common.{◌≡◌, ℕ, zero, suc, ◌+◌, ◌/◌, ◌%◌, ◌^◌, ◌<◌, ◌≤◌, true, ltb, List, [], ◌∷◌, ◌++◌, length, Ok, Result, Vec, sym, ap, ◌∙◌, subst, pow-suc, arith}
 use Rattle.decks.proofs.Digits.{octal-none, octal-more}
-use Rattle.decks.specs.Deck.{Reading, step_in, step_on, onward, read_from, deck_of, Answers}
+use Rattle.decks.specs.Deck.{Reading, step_on, onward, read_from, deck_of, Answers}
 use Rattle.decks.specs.Laws.{ReadsBack}
 use Rattle.decks.specs.Octal.{octal, written}
-use Rattle.decks.specs.Signs.{sign_of, is_octal}
+use Rattle.decks.specs.Signs.{sign_of}
 use Rattle.words.specs.Word.{are_words}
 use Rattle.decks.specs.declared.fault.DeckError.{DeckError}
 use Rattle.decks.specs.declared.reader.Mode.{Mode}
@@ -12,13 +12,12 @@ use Rattle.decks.specs.declared.reader.Mode.TheVariants.{Between, Number}
 use Rattle.decks.specs.declared.signs.Sign.TheVariants.{Digit}
 use Rattle.std.proofs.lemmas.Nat.{div_below}
 use Rattle.std.proofs.lemmas.List.{append_assoc, append-nil, length_push}
-use Rattle.std.proofs.lemmas.Bool.{and_from, and_parts, cond-true, le-leb, lt-ltb, ltb-true}
+use Rattle.std.proofs.lemmas.Bool.{and_parts, ltb-true}
+use Rattle.std.proofs.lemmas.Bool.Decides.{nat_tests}
 use Rattle.std.specs.declared.alloc.Global.{Global}
 
 digit-sign : (d : ℕ) → d < 8 → sign_of (48 + d) ≡ Digit d
-digit-sign d l =
-    cond-true (is_octal (48 + d)) (Digit (48 + d - 48)) _ (and_from (leb 48 (48 + d)) (leb (48 + d) 55) (le-leb 48 (48 + d) (omega arith)) (le-leb (48 + d) 55 (omega arith)))
-    ∙ let e : 48 + d - 48 ≡ d = omega arith in ap Digit e
+digit-sign d l = grind (arith, nat_tests)
 
 abbrev at : ℕ → List ℕ → Mode → Reading
 at line ws m = record { line = line; words = ws; mode = m }
@@ -31,16 +30,8 @@ after (suc k) v = Number v (suc k)
 module _ (line : ℕ) (ws : List ℕ) (few : length ws < 262144) where
   -- one digit more
   digit-step : (k w : ℕ) → w < 8 ^ suc k → k < 12 → step_on (48 + w % 8) (at line ws (after k (w / 8))) ≡ Ok (at line ws (Number w (suc k)))
-  digit-step zero w l m =
-      ap (λ g. step_in Between g (at line ws Between)) (digit-sign (w % 8) (omega arith))
-      ∙ cond-true (ltb (length ws) 262144) _ _ (lt-ltb (length ws) 262144 few)
-      ∙ let e : w % 8 ≡ w = omega arith in ap (λ v. Ok (at line ws (Number v 1))) e
-  digit-step (suc k) w l m =
-      let n = suc k in
-      ap (λ g. step_in (Number (w / 8) n) g (at line ws (Number (w / 8) n))) (digit-sign (w % 8) (omega arith))
-      ∙ cond-true (ltb n 12) _ _ (lt-ltb n 12 m)
-      ∙ ap (λ j. Ok (at line ws (Number (8 * (w / 8) + w % 8) j))) (add-one n)
-      ∙ let e : 8 * (w / 8) + w % 8 ≡ w = omega arith in ap (λ v. Ok (at line ws (Number v (suc n)))) e
+  digit-step zero w l m = grind (arith, nat_tests, digit-sign)
+  digit-step (suc k) w l m = grind (arith, nat_tests, digit-sign)
 
   digits-read : (k w : ℕ) (rest : List ℕ) → w < 8 ^ k → k ≤ 12 → read_from (at line ws Between) (octal k w ++ rest) ≡ read_from (at line ws (after k w)) rest
   digits-read zero w rest l m = ap (λ t. read_from (at line ws Between) (t ++ rest)) (octal-none w)

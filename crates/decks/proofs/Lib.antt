@@ -1,6 +1,5 @@
 pub mod Agrees
 pub mod Back
 pub mod Digits
-pub mod Puts
+pub mod FromFn
 pub mod Sounds
-pub mod Turns

@@ -5,4 +5,5 @@ pub mod Laws
 pub mod Octal
 pub mod Reader
 pub mod Signs
+pub mod Sound
 pub mod Storing

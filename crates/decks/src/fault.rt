@@ -3,6 +3,7 @@ ghost use Rattle.decks.specs.declared.fault.DeckFault.TheVariants.{NoMemory};
 ghost use Rattle.std.specs.Prelude.{◌≡◌, Some};
 
 use std::alloc::AllocFailed;
+use std::error::Error;
 use std::fmt;
 
 /// What can be wrong with a deck.
@@ -25,17 +26,17 @@ pub struct DeckError {
     pub fault: DeckFault,
 }
 
-impl DeckFault {
-    /// The fault in plain words.
-    fn text(self) -> &'static str
-        ensures { result.now ≡ fault_words self }
-    {
-        match self {
+// Written out, since a derived `Display` does not state its words.
+impl fmt::Display for DeckFault {
+    ghost output = { λ fault. Some (fault_words fault) };
+
+    fn fmt<W: fmt::Write>(&self, f: &mut fmt::Formatter<W>) -> fmt::Result {
+        f.write_str(match self {
             DeckFault::NotOctal => "not an octal digit",
             DeckFault::TooManyDigits => "more than twelve digits",
             DeckFault::TooManyWords => "more than 262144 words",
             DeckFault::NoMemory => "no memory for the words",
-        }
+        })
     }
 }
 
@@ -43,11 +44,13 @@ impl fmt::Display for DeckError {
     ghost output = { λ e. Some (error_words e) };
 
     fn fmt<W: fmt::Write>(&self, f: &mut fmt::Formatter<W>) -> fmt::Result {
-        let line = self.line;
-        let text = self.fault.text();
-        write!(f, "line {line}: {text}")
+        write!(f, "line {}: {}", self.line, self.fault)
     }
 }
+
+impl Error for DeckFault {}
+
+impl Error for DeckError {}
 
 /// A word that finds no room.
 impl From<AllocFailed<u64>> for DeckFault {

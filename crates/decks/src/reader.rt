@@ -1,16 +1,15 @@
-ghost use Rattle.std.specs.Prelude.{◌≡◌, ◌+◌, ◌^◌, ◌<◌, ◌≤◌, Ok};
-ghost use Rattle.decks.specs.Deck.{begun, step_in, step_on, words_in};
-ghost use Rattle.decks.specs.Reader.{reading, Goes, Ends, SmallDigit, Sound};
-ghost use Rattle.decks.specs.declared.reader.Mode.TheVariants.{Between, Number, Comment};
+ghost use Rattle.std.specs.Prelude.{◌≡◌, ◌≤◌, true, length, vec_items, IfOk};
+ghost use Rattle.decks.specs.Sound.{SoundIn, SoundIn-prop};
+ghost use Rattle.words.specs.Word.{are_words};
 
 use crate::fault::DeckFault;
-use crate::signs::{Sign, sign_of};
+use crate::signs::Sign;
 use memory::CORE_LIMIT;
 use std::alloc::Global;
 
 /// What the reader of a deck stands in.
-#[derive(Clone, Copy)]
-pub(crate) enum Mode {
+#[derive(Clone, Copy, PartialEq, Eq, Debug)]
+enum Mode {
     /// Between words.
     Between,
     /// In a number that has this value and this many digits so far.
@@ -21,117 +20,73 @@ pub(crate) enum Mode {
 /// How far the reading of a deck has come.
 #[derive(Drop)]
 pub(crate) struct Reader {
-    /// The lines that have ended.
-    pub(crate) newlines: u64,
     /// The words that are complete.
-    pub(crate) words: Vec<u64>,
-    pub(crate) mode: Mode,
+    words: Vec<u64>,
+    mode: Mode,
+    ghost only_words: { are_words (vec_items words) ≡ true },
+    ghost sound: { SoundIn mode (length (vec_items words)) } by { SoundIn-prop mode (length (vec_items words)) },
 }
 
 impl Reader {
+    ghost use Rattle.decks.specs.Reader.{reading, Goes, Ends};
+    ghost use Rattle.decks.specs.Deck.{begun, words_in};
+
     /// At the start of a text.
     pub(crate) fn new(heap: Global) -> Reader
-        ensures { reading result ≡ begun }
+        ensures { reading 1 result ≡ begun }
     {
         Reader {
-            newlines: 0,
             words: Vec::new(heap),
             mode: Mode::Between,
         }
     }
 
-    /// Reads one character more.
+    /// Reads one character more. A number or a comment goes on up to what ends it.
+    #[tactic(auto, using(crate::proofs::Sounds::sounds))]
     pub(crate) fn step(&mut self, c: u8) -> Result<(), DeckFault>
-        requires sound { Sound (reading self.old) }
-        requires room { self.old.newlines + 1 < 2 ^ 64 }
-        ensures { Goes (step_on c (reading self.old)) (reading self.old) (reading self.new) result }
+        ensures { Goes c self.old self.new result }
     {
-        let sign = sign_of(c);
-        match self.mode {
-            Mode::Between => self.between(sign),
-            Mode::Number { value, digits } => self.in_number(value, digits, sign),
-            Mode::Comment => {
-                self.in_comment(sign);
-                Ok(())
-            }
-        }
-    }
-
-    /// Between words a digit begins the next one.
-    fn between(&mut self, sign: Sign) -> Result<(), DeckFault>
-        requires mode { self.old.mode ≡ Between }
-        requires room { self.old.newlines + 1 < 2 ^ 64 }
-        ensures { Goes (step_in Between sign (reading self.old)) (reading self.old) (reading self.new) result }
-    {
-        match sign {
-            Sign::Digit(d) => {
+        match (self.mode, Sign::from(c)) {
+            (Mode::Between, Sign::Digit(d)) => {
                 if self.words.len() as u64 >= CORE_LIMIT {
                     return Err(DeckFault::TooManyWords);
                 }
                 self.mode = Mode::Number {
-                    value: d,
+                    value: u64::from(d),
                     digits: 1,
                 };
             }
-            Sign::Blank => {}
-            Sign::NewLine => self.newlines += 1,
-            Sign::Hash => self.mode = Mode::Comment,
-            Sign::Other => return Err(DeckFault::NotOctal),
-        }
-        Ok(())
-    }
-
-    /// A number goes on up to what is no digit.
-    fn in_number(&mut self, value: u64, digits: u64, sign: Sign) -> Result<(), DeckFault>
-        requires mode { self.old.mode ≡ Number value digits }
-        requires fits { (value < 8 ^ digits) × (digits ≤ 12) }
-        requires digit { SmallDigit sign }
-        requires room { self.old.newlines + 1 < 2 ^ 64 }
-        ensures { Goes (step_in (Number value digits) sign (reading self.old)) (reading self.old) (reading self.new) result }
-    {
-        match sign {
-            Sign::Digit(d) => {
+            (Mode::Number { value, digits }, Sign::Digit(d)) => {
                 if digits >= 12 {
                     return Err(DeckFault::TooManyDigits);
                 }
                 self.mode = Mode::Number {
-                    value: 8 * value + d,
+                    value: 8 * value + u64::from(d),
                     digits: digits + 1,
                 };
             }
-            Sign::Blank => {
+            (Mode::Number { value, .. }, Sign::Blank | Sign::NewLine) => {
                 self.words.push(value)?;
                 self.mode = Mode::Between;
             }
-            Sign::NewLine => {
-                self.words.push(value)?;
-                self.newlines += 1;
-                self.mode = Mode::Between;
-            }
-            Sign::Hash => {
+            (Mode::Number { value, .. }, Sign::Hash) => {
                 self.words.push(value)?;
                 self.mode = Mode::Comment;
             }
-            Sign::Other => return Err(DeckFault::NotOctal),
+            (Mode::Between, Sign::Hash) => self.mode = Mode::Comment,
+            (Mode::Comment, Sign::NewLine) => self.mode = Mode::Between,
+            (Mode::Between, Sign::Blank | Sign::NewLine) | (Mode::Comment, _) => {}
+            (_, Sign::Other) => return Err(DeckFault::NotOctal),
         }
         Ok(())
     }
 
-    /// A comment goes on up to the newline.
-    fn in_comment(&mut self, sign: Sign)
-        requires mode { self.old.mode ≡ Comment }
-        requires room { self.old.newlines + 1 < 2 ^ 64 }
-        ensures { step_in Comment sign (reading self.old) ≡ Ok (reading self.new) }
-    {
-        if let Sign::NewLine = sign {
-            self.newlines += 1;
-            self.mode = Mode::Between;
-        }
-    }
-
     /// The words, at the end of the text.
+    #[tactic(auto, using(crate::proofs::Sounds::sounds))]
     pub(crate) fn end(mut self) -> Result<Vec<u64>, DeckFault>
-        ensures { Ends (words_in self.mode self.words.items) result }
+        ensures ends { Ends (words_in self.mode self.words.items) result }
+        ensures few { IfOk result (λ v. length v.items ≤ 262144) }
+        ensures words { IfOk result (λ v. are_words v.items ≡ true) }
     {
         if let Mode::Number { value, .. } = self.mode {
             self.words.push(value)?;

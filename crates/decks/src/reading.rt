@@ -15,17 +15,14 @@ pub fn read_deck(heap: Global, text: &[u8]) -> Result<Vec<u64>, DeckError>
     ensures back { ReadsBack text.now result }
 {
     let mut reader = Reader::new(heap);
-    for c in text {
-        if let Err(fault) = reader.step(*c) {
-            let line = reader.newlines + 1;
-            return Err(DeckError { line, fault });
+    let mut line = 1u64;
+    for &c in text {
+        reader.step(c).map_err(|fault| DeckError { line, fault })?;
+        if c == b'\n' {
+            // The count saturates, since a text can have as many newlines as a number can count. The last of
+            // them is the last character then, and only memory can fail after it.
+            line = line.saturating_add(1);
         }
     }
-    // Only memory can fail from here on. The sum saturates, since a text can have as many newlines as
-    // a number can count.
-    let line = reader.newlines.saturating_add(1);
-    match reader.end() {
-        Ok(words) => Ok(words),
-        Err(fault) => Err(DeckError { line, fault }),
-    }
+    reader.end().map_err(|fault| DeckError { line, fault })
 }

@@ -2,10 +2,10 @@ ghost use Rattle.decks.specs.Signs.{sign_of};
 ghost use Rattle.std.specs.Prelude.{◌≡◌};
 
 /// What a character is to the reader of a deck.
-#[derive(Clone, Copy)]
+#[derive(Clone, Copy, PartialEq, Eq, Debug)]
 pub(crate) enum Sign {
     /// An octal digit, by its value.
-    Digit(u64),
+    Digit(u8),
     /// A space, a tab or a carriage return.
     Blank,
     NewLine,
@@ -14,14 +14,16 @@ pub(crate) enum Sign {
     Other,
 }
 
-pub(crate) fn sign_of(c: u8) -> Sign
-    ensures { result ≡ sign_of c }
-{
-    match c {
-        b'0'..=b'7' => Sign::Digit((c - b'0') as u64),
-        b' ' | b'\t' | b'\r' => Sign::Blank,
-        b'\n' => Sign::NewLine,
-        b'#' => Sign::Hash,
-        _ => Sign::Other,
+impl From<u8> for Sign {
+    ghost from_gives = { λ c sign. sign ≡ sign_of c };
+
+    fn from(c: u8) -> Sign {
+        match c {
+            b'0'..=b'7' => Sign::Digit(c - b'0'),
+            b' ' | b'\t' | b'\r' => Sign::Blank,
+            b'\n' => Sign::NewLine,
+            b'#' => Sign::Hash,
+            _ => Sign::Other,
+        }
     }
 }

@@ -26,10 +26,7 @@ pub fn store<C: Core>(core: &mut C, words: &[u64]) -> Result<(), Refusal>
 fn holds<C: Core>(core: &C, a: u64, w: u64) -> bool
     ensures { result ≡ holds_at (C.Core.words core.now) a w }
 {
-    match core.read(a) {
-        Ok(x) => x == w,
-        Err(_) => false,
-    }
+    core.read(a) == Ok(w)
 }
 
 /// For how many of the words the core has the same word at the same address: for all of them exactly
@@ -39,11 +36,9 @@ pub fn count_equal<C: Core>(core: &C, words: &[u64]) -> u64
     ensures all { Begins (C.Core.words core.now) words.now → result ≡ length words.now }
     ensures only { result ≡ length words.now → Begins (C.Core.words core.now) words.now }
 {
-    let mut equal = 0;
-    for (a, w) in words.iter().enumerate() {
-        if holds(core, a as u64, *w) {
-            equal += 1;
-        }
-    }
-    equal
+    words
+        .iter()
+        .enumerate()
+        .filter(|&(a, &w)| holds(core, a as u64, w))
+        .count() as u64
 }

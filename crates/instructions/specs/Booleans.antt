@@ -4,12 +4,11 @@ use Rattle.instructions.specs.Results.{by_mode, operand_of, read_by_mode}
 use Rattle.logic.specs.Boolean.{boolean_of}
 use Rattle.operations.specs.declared.effect.Effect.{Effect}
 use Rattle.operations.specs.declared.effect.Inputs.{Inputs}
-use Rattle.operations.specs.declared.effect.Status.{Status}
 use Rattle.operations.specs.declared.operation.Mode.{Mode}
 
 -- SETZ 400 to SETOB 477: the code's bits 3 to 6 are the truth table, its last two bits the mode
-abbrev pub boolean_effect_of : ℕ → Mode → Inputs → Status → Effect
-boolean_effect_of table mode given s = by_mode mode given.e (boolean_of table (operand_of mode given) given.ac) s
+abbrev pub boolean_effect_of : ℕ → Mode → Inputs → Effect
+boolean_effect_of table mode given = by_mode mode given.e (boolean_of table (operand_of mode given) given.ac) given.status
 
 -- SETZ, SETA, SETCA and SETO do not look at the operand
 abbrev pub without_operand : ℕ → Bool

@@ -10,8 +10,8 @@ use Rattle.stops.specs.declared.stop.Stop.TheVariants.{MonitorCall, NotInstalled
 abbrev pub stopped : Stop → Status → Effect
 stopped stop s = record { store = None; a = None; a1 = None; status = s; stop = Some stop }
 
-abbrev pub monitor_call_of : Inputs → Status → Effect
-monitor_call_of given s = stopped (MonitorCall given.call) s
+abbrev pub monitor_call_of : Inputs → Effect
+monitor_call_of given = stopped (MonitorCall given.call) given.status
 
-abbrev pub not_installed_of : Inputs → Status → Effect
-not_installed_of given s = stopped (NotInstalled given.call) s
+abbrev pub not_installed_of : Inputs → Effect
+not_installed_of given = stopped (NotInstalled given.call) given.status

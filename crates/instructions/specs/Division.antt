@@ -22,5 +22,5 @@ divided_to mode e None s = wordless (flagged (bit_or s.flags 0o400040) s)
 divided_to mode e (Some d) s = quotient_to mode e d s
 
 -- IDIV 230, IDIVI 231, IDIVM 232, IDIVB 233: A divided by the operand
-abbrev pub idiv_of : Mode → Inputs → Status → Effect
-idiv_of mode given s = divided_to mode given.e (division_of given.ac (operand_of mode given)) s
+abbrev pub idiv_of : Mode → Inputs → Effect
+idiv_of mode given = divided_to mode given.e (division_of given.ac (operand_of mode given)) given.status

@@ -14,41 +14,40 @@ use Rattle.instructions.specs.Sums.{add_of, sub_of}
 use Rattle.instructions.specs.Tests.{test_of}
 use Rattle.operations.specs.declared.effect.Effect.{Effect}
 use Rattle.operations.specs.declared.effect.Inputs.{Inputs}
-use Rattle.operations.specs.declared.effect.Status.{Status}
 use Rattle.operations.specs.declared.operation.Operation.{Operation}
 use Rattle.operations.specs.declared.operation.Operation.TheVariants.{MonitorCall, NotInstalled, Nothing, Move, Idiv, Shift, Jffo, Exch, Aobjp, Aobjn, Jrst, Jfcl, Pushj, Push, Pop, Popj, Jsr, Jsp, Jsa, Jra, Add, Sub, Cai, Cam, Jump, Skip, Aoj, Aos, Soj, Sos, Boolean, HalfWord, Test}
 
-unfoldable pub effect_of : Operation → Inputs → Status → Effect
-effect_of MonitorCall given s = monitor_call_of given s
-effect_of NotInstalled given s = not_installed_of given s
-effect_of Nothing given s = wordless s
-effect_of (Move form mode) given s = move_of form mode given s
-effect_of (Idiv mode) given s = idiv_of mode given s
-effect_of (Shift shift) given s = shift_of shift given s
-effect_of Jffo given s = jffo_of given s
-effect_of Exch given s = exch_of given s
-effect_of Aobjp given s = aobjp_of given s
-effect_of Aobjn given s = aobjn_of given s
-effect_of (Jrst restores) given s = jrst_of restores given s
-effect_of Jfcl given s = jfcl_of given s
-effect_of Pushj given s = pushj_of given s
-effect_of Push given s = push_of given s
-effect_of Pop given s = pop_of given s
-effect_of Popj given s = popj_of given s
-effect_of Jsr given s = jsr_of given s
-effect_of Jsp given s = jsp_of given s
-effect_of Jsa given s = jsa_of given s
-effect_of Jra given s = jra_of given s
-effect_of (Add mode) given s = add_of mode given s
-effect_of (Sub mode) given s = sub_of mode given s
-effect_of (Cai condition) given s = cai_of condition given s
-effect_of (Cam condition) given s = cam_of condition given s
-effect_of (Jump condition) given s = jump_of condition given s
-effect_of (Skip condition) given s = skip_of condition given s
-effect_of (Aoj condition) given s = aoj_of condition given s
-effect_of (Aos condition) given s = aos_of condition given s
-effect_of (Soj condition) given s = soj_of condition given s
-effect_of (Sos condition) given s = sos_of condition given s
-effect_of (Boolean table mode) given s = boolean_effect_of table mode given s
-effect_of (HalfWord kind mode) given s = half_word_of kind mode given s
-effect_of (Test from change when) given s = test_of from change when given s
+unfoldable pub effect_of : Operation → Inputs → Effect
+effect_of MonitorCall given = monitor_call_of given
+effect_of NotInstalled given = not_installed_of given
+effect_of Nothing given = wordless given.status
+effect_of (Move form mode) given = move_of form mode given
+effect_of (Idiv mode) given = idiv_of mode given
+effect_of (Shift shift) given = shift_of shift given
+effect_of Jffo given = jffo_of given
+effect_of Exch given = exch_of given
+effect_of Aobjp given = aobjp_of given
+effect_of Aobjn given = aobjn_of given
+effect_of (Jrst restores) given = jrst_of restores given
+effect_of Jfcl given = jfcl_of given
+effect_of Pushj given = pushj_of given
+effect_of Push given = push_of given
+effect_of Pop given = pop_of given
+effect_of Popj given = popj_of given
+effect_of Jsr given = jsr_of given
+effect_of Jsp given = jsp_of given
+effect_of Jsa given = jsa_of given
+effect_of Jra given = jra_of given
+effect_of (Add mode) given = add_of mode given
+effect_of (Sub mode) given = sub_of mode given
+effect_of (Cai condition) given = cai_of condition given
+effect_of (Cam condition) given = cam_of condition given
+effect_of (Jump condition) given = jump_of condition given
+effect_of (Skip condition) given = skip_of condition given
+effect_of (Aoj condition) given = aoj_of condition given
+effect_of (Aos condition) given = aos_of condition given
+effect_of (Soj condition) given = soj_of condition given
+effect_of (Sos condition) given = sos_of condition given
+effect_of (Boolean table mode) given = boolean_effect_of table mode given
+effect_of (HalfWord kind mode) given = half_word_of kind mode given
+effect_of (Test from change when) given = test_of from change when given

@@ -7,18 +7,17 @@ use Rattle.logic.specs.declared.half_words.Other.{Other}
 use Rattle.logic.specs.declared.half_words.Other.TheVariants.{Extended, Kept, Ones, Zeros}
 use Rattle.operations.specs.declared.effect.Effect.{Effect}
 use Rattle.operations.specs.declared.effect.Inputs.{Inputs}
-use Rattle.operations.specs.declared.effect.Status.{Status}
 use Rattle.operations.specs.declared.operation.MoveMode.{MoveMode}
 use Rattle.operations.specs.declared.operation.MoveMode.TheVariants.{Basic, Immediate, Memory, Own}
 
 -- HLL 500 to HLRES 577. Each destination keeps its own other half where the move keeps one.
-abbrev pub half_word_of : HalfMove → MoveMode → Inputs → Status → Effect
-half_word_of kind Basic given s = to_a (moved_half kind given.operand given.ac) s
-half_word_of kind Immediate given s = to_a (moved_half kind given.e given.ac) s
-half_word_of kind Memory given s = to_memory given.e (moved_half kind given.ac given.operand) s
-half_word_of kind Own given s =
+abbrev pub half_word_of : HalfMove → MoveMode → Inputs → Effect
+half_word_of kind Basic given = to_a (moved_half kind given.operand given.ac) given.status
+half_word_of kind Immediate given = to_a (moved_half kind given.e given.ac) given.status
+half_word_of kind Memory given = to_memory given.e (moved_half kind given.ac given.operand) given.status
+half_word_of kind Own given =
     effect (Some (given.e, moved_half kind given.operand given.operand))
-    (unless_zero given.field (moved_half kind given.operand given.ac)) None s
+    (unless_zero given.field (moved_half kind given.operand given.ac)) None given.status
 
 -- a move to memory reads the word at E only to keep its other half
 abbrev pub read_to_keep : Other → ℕ → Option ℕ

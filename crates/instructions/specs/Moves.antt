@@ -52,9 +52,11 @@ formed Magnitude x s = cond (is_negative x) (negated x s) (x, s)
 -- MOVS 204, MOVSI 205, MOVSM 206, MOVSS 207
 -- MOVN 210, MOVNI 211, MOVNM 212, MOVNS 213
 -- MOVM 214, MOVMI 215, MOVMM 216, MOVMS 217
-abbrev pub move_of : Form → MoveMode → Inputs → Status → Effect
-move_of form mode given s = by_move_mode mode given (formed form (source_of mode given) s).0 (formed form (source_of mode given) s).1
+abbrev pub move_of : Form → MoveMode → Inputs → Effect
+move_of form mode given =
+    let r = formed form (source_of mode given) given.status in
+    by_move_mode mode given r.0 r.1
 
 -- EXCH 250: A and the word at E change places
-abbrev pub exch_of : Inputs → Status → Effect
-exch_of given s = effect (Some (given.e, given.ac)) (Some given.operand) None s
+abbrev pub exch_of : Inputs → Effect
+exch_of given = effect (Some (given.e, given.ac)) (Some given.operand) None given.status

@@ -1,4 +1,6 @@
 -- Every word that an effect writes is a word of 36 bits.
+-- A fact of clauses and no ghost field of Effect: what an instruction does is promised for wider inputs too, and one that
+-- hands such an input on writes a wider word.
 use Rattle.std.specs.Prelude.{◌^◌, ◌<◌, IfSome}
 use Rattle.operations.specs.declared.effect.Effect.{Effect}
 

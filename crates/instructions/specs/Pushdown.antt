@@ -24,17 +24,17 @@ abbrev pub popped : Option (ℕ × ℕ) → ℕ → Status → Effect
 popped m pointer s = record { store = m; a = Some pointer; a1 = None; status = s; stop = stop_at 0o777777 pointer }
 
 -- PUSHJ 260: the PC word onto the list, and on at E
-abbrev pub pushj_of : Inputs → Status → Effect
-pushj_of given s = pushed (pointer_up given.ac) (pc_word s) (called given.e s)
+abbrev pub pushj_of : Inputs → Effect
+pushj_of given = pushed (pointer_up given.ac) (pc_word given.status) (called given.e given.status)
 
 -- PUSH 261: the word at E onto the list
-abbrev pub push_of : Inputs → Status → Effect
-push_of given s = pushed (pointer_up given.ac) given.operand s
+abbrev pub push_of : Inputs → Effect
+push_of given = pushed (pointer_up given.ac) given.operand given.status
 
 -- POP 262: the last word of the list to E
-abbrev pub pop_of : Inputs → Status → Effect
-pop_of given s = popped (Some (given.e, given.operand)) (pointer_down given.ac) s
+abbrev pub pop_of : Inputs → Effect
+pop_of given = popped (Some (given.e, given.operand)) (pointer_down given.ac) given.status
 
 -- POPJ 263: on at the right half of the last word of the list
-abbrev pub popj_of : Inputs → Status → Effect
-popj_of given s = popped None (pointer_down given.ac) (jumped (right given.operand) s)
+abbrev pub popj_of : Inputs → Effect
+popj_of given = popped None (pointer_down given.ac) (jumped (right given.operand) given.status)

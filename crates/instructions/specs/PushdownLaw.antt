@@ -4,12 +4,11 @@ use Rattle.std.specs.Prelude.{◌≡◌, ℕ, ◌^◌, ◌<◌, Some}
 use Rattle.instructions.specs.Effects.{effect_of}
 use Rattle.instructions.specs.Operands.{operand_at}
 use Rattle.operations.specs.declared.effect.Inputs.{Inputs}
-use Rattle.operations.specs.declared.effect.Status.{Status}
 use Rattle.operations.specs.declared.operation.Operation.TheVariants.{Pop, Push}
 
 abbrev pub PushThenPop : Type 0
 PushThenPop =
-    (i j : Inputs) (s t : Status) (at : ℕ) → i.ac < 2 ^ 36
-    → (effect_of Push i s).store ≡ Some (at, j.operand)
-    → (effect_of Push i s).a ≡ Some j.ac
-    → (operand_at Pop j.e j.ac ≡ Some at) × ((effect_of Pop j t).store ≡ Some (j.e, i.operand)) × ((effect_of Pop j t).a ≡ Some i.ac)
+    (i j : Inputs) (at : ℕ) → i.ac < 2 ^ 36
+    → (effect_of Push i).store ≡ Some (at, j.operand)
+    → (effect_of Push i).a ≡ Some j.ac
+    → (operand_at Pop j.e j.ac ≡ Some at) × ((effect_of Pop j).store ≡ Some (j.e, i.operand)) × ((effect_of Pop j).a ≡ Some i.ac)

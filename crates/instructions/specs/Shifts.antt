@@ -28,14 +28,14 @@ abbrev pub arithmetic_pair_to : ℕ × ℕ × Bool → Status → Effect
 arithmetic_pair_to r s = effect None (Some r.0) (Some r.1) (overflow_if r.2 s)
 
 -- ASH 240, ROT 241, LSH 242, ASHC 244, ROTC 245, LSHC 246: E says how far and which way
-abbrev pub shift_of : Shift → Inputs → Status → Effect
-shift_of Ash given s = arithmetic_to (arithmetic given.ac given.e) s
-shift_of Rot given s = to_a (rotated given.ac given.e) s
-shift_of Lsh given s = to_a (logical given.ac given.e) s
-shift_of Ashc given s = arithmetic_pair_to (arithmetic_pair given.ac given.next given.e) s
-shift_of Rotc given s = pair_to (rotated_pair given.ac given.next given.e) s
-shift_of Lshc given s = pair_to (logical_pair given.ac given.next given.e) s
+abbrev pub shift_of : Shift → Inputs → Effect
+shift_of Ash given = arithmetic_to (arithmetic given.ac given.e) given.status
+shift_of Rot given = to_a (rotated given.ac given.e) given.status
+shift_of Lsh given = to_a (logical given.ac given.e) given.status
+shift_of Ashc given = arithmetic_pair_to (arithmetic_pair given.ac given.next given.e) given.status
+shift_of Rotc given = pair_to (rotated_pair given.ac given.next given.e) given.status
+shift_of Lshc given = pair_to (logical_pair given.ac given.next given.e) given.status
 
 -- JFFO 243: the number of 0s to the left of the first 1 of A to A + 1, and on at E; if A is 0, 0 to A + 1 and no jump
-abbrev pub jffo_of : Inputs → Status → Effect
-jffo_of given s = effect None None (Some (zeros_ahead given.ac)) (jump_if (not (given.ac % 2 ^ 36 == 0)) given.e s)
+abbrev pub jffo_of : Inputs → Effect
+jffo_of given = effect None None (Some (zeros_ahead given.ac)) (jump_if (not (given.ac % 2 ^ 36 == 0)) given.e given.status)

@@ -15,17 +15,17 @@ abbrev pub called : ℕ → Status → Status
 called e s = record { pc = e; flags = cleared 0o020000 s.flags }
 
 -- JSR 264: the PC word to E, and on at E + 1
-abbrev pub jsr_of : Inputs → Status → Effect
-jsr_of given s = to_memory given.e (pc_word s) (called (following given.e) s)
+abbrev pub jsr_of : Inputs → Effect
+jsr_of given = to_memory given.e (pc_word given.status) (called (following given.e) given.status)
 
 -- JSP 265: the PC word to A, and on at E
-abbrev pub jsp_of : Inputs → Status → Effect
-jsp_of given s = to_a (pc_word s) (called given.e s)
+abbrev pub jsp_of : Inputs → Effect
+jsp_of given = to_a (pc_word given.status) (called given.e given.status)
 
 -- JSA 266: A to E, the word E,,PC to A, and on at E + 1
-abbrev pub jsa_of : Inputs → Status → Effect
-jsa_of given s = effect (Some (given.e, given.ac)) (Some (halves given.e s.pc)) None (jumped (following given.e) s)
+abbrev pub jsa_of : Inputs → Effect
+jsa_of given = effect (Some (given.e, given.ac)) (Some (halves given.e given.status.pc)) None (jumped (following given.e) given.status)
 
 -- JRA 267: the word that the left half of A addresses to A, and on at E
-abbrev pub jra_of : Inputs → Status → Effect
-jra_of given s = to_a given.operand (jumped given.e s)
+abbrev pub jra_of : Inputs → Effect
+jra_of given = to_a given.operand (jumped given.e given.status)

@@ -13,9 +13,9 @@ abbrev pub sum_to : Mode → ℕ → ℕ × Bool × Bool → Status → Effect
 sum_to mode e r s = by_mode mode e r.0 (after_sum r s)
 
 -- ADD 270, ADDI 271, ADDM 272, ADDB 273: A plus the operand
-abbrev pub add_of : Mode → Inputs → Status → Effect
-add_of mode given s = sum_to mode given.e (add_words given.ac (operand_of mode given) false) s
+abbrev pub add_of : Mode → Inputs → Effect
+add_of mode given = sum_to mode given.e (add_words given.ac (operand_of mode given) false) given.status
 
 -- SUB 274, SUBI 275, SUBM 276, SUBB 277: A less the operand
-abbrev pub sub_of : Mode → Inputs → Status → Effect
-sub_of mode given s = sum_to mode given.e (add_words given.ac (complement_of (operand_of mode given)) true) s
+abbrev pub sub_of : Mode → Inputs → Effect
+sub_of mode given = sum_to mode given.e (add_words given.ac (complement_of (operand_of mode given)) true) given.status

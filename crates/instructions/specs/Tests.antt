@@ -31,8 +31,8 @@ abbrev pub masked_test : Change → SkipWhen → ℕ → ℕ → Status → Effe
 masked_test change when ac mask s = effect None (changed_word change ac mask) None (skip_if (skips_when when ac mask) s)
 
 -- TRN 600 to TSON 677
-abbrev pub test_of : MaskFrom → Change → SkipWhen → Inputs → Status → Effect
-test_of from change when given s = masked_test change when given.ac (mask_of from given) s
+abbrev pub test_of : MaskFrom → Change → SkipWhen → Inputs → Effect
+test_of from change when given = masked_test change when given.ac (mask_of from given) given.status
 
 -- the address that is read
 abbrev pub read_by_mask : MaskFrom → ℕ → Option ℕ

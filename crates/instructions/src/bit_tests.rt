@@ -1,12 +1,12 @@
 //! The tests of bits of the accumulator under a mask.
 
 ghost use Rattle.instructions.specs.Narrow.{NarrowEffect};
-ghost use Rattle.instructions.specs.Tests.{changed_word, mask_of, masked_test, test_of};
+ghost use Rattle.instructions.specs.Tests.{changed_word, mask_of, test_of};
 ghost use Rattle.std.specs.Prelude.{◌≡◌, ◌^◌, ◌<◌, IfSome};
 
-use crate::results::skip_if;
+use crate::results::{skip_if, wordless};
 use logic::{Change, SkipWhen, changed, from_halves, skips, swap};
-use operations::{Effect, Inputs, MaskFrom, Status};
+use operations::{Effect, Inputs, MaskFrom};
 
 /// The mask.
 fn mask_of(from: MaskFrom, given: Inputs) -> u64
@@ -25,29 +25,17 @@ fn changed_word(change: Change, ac: u64, mask: u64) -> Option<u64>
     ensures value { result ≡ changed_word change ac mask }
     ensures narrow { IfSome result (λ w. w < 2 ^ 36) }
 {
-    match change {
-        Change::Unchanged => None,
-        Change::Zeros | Change::Complement | Change::Ones => Some(changed(change, ac, mask)),
-    }
+    (change != Change::Unchanged).then(|| changed(change, ac, mask))
 }
 
 /// A test: it skips by the accumulator as it was before the change.
-pub(crate) fn test_effect(
-    from: MaskFrom,
-    change: Change,
-    when: SkipWhen,
-    given: Inputs,
-    status: Status,
-) -> Effect
-    ensures value { result ≡ test_of from change when given status }
+pub(crate) fn test_effect(from: MaskFrom, change: Change, when: SkipWhen, given: Inputs) -> Effect
+    ensures value { result ≡ test_of from change when given }
     ensures narrow { NarrowEffect result }
 {
     let mask = mask_of(from, given);
     Effect {
-        store: None,
         a: changed_word(change, given.ac, mask),
-        a1: None,
-        status: skip_if(skips(when, given.ac, mask), status),
-        stop: None,
+        ..wordless(skip_if(skips(when, given.ac, mask), given.status))
     }
 }

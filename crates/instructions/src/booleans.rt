@@ -6,17 +6,17 @@ ghost use Rattle.std.specs.Prelude.{◌≡◌};
 
 use crate::results::{by_mode, operand_of};
 use logic::boolean;
-use operations::{Effect, Inputs, Mode, Status};
+use operations::{Effect, Inputs, Mode};
 
 /// The Boolean function of a truth table, of the operand and the accumulator.
-pub(crate) fn boolean_effect(table: u64, mode: Mode, given: Inputs, status: Status) -> Effect
-    ensures value { result ≡ boolean_effect_of table mode given status }
+pub(crate) fn boolean_effect(table: u64, mode: Mode, given: Inputs) -> Effect
+    ensures value { result ≡ boolean_effect_of table mode given }
     ensures narrow { NarrowEffect result }
 {
     by_mode(
         mode,
         given.e,
         boolean(table, operand_of(mode, given), given.ac),
-        status,
+        given.status,
     )
 }

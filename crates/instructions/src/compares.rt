@@ -1,4 +1,7 @@
 //! The comparisons, and the counts that end in one.
+//!
+//! Each instruction is one line under its own name: it says what is compared or counted, and its clause names its
+//! definition. What two of them share is in `count_and_jump` and `count_and_skip`.
 
 ghost use Rattle.std.specs.Prelude.{◌≡◌, ◌^◌, ◌<◌};
 ghost use Rattle.instructions.specs.Compares.{aoj_of, aos_of, cai_of, cam_of, count_and_jump, count_and_skip, jump_of, skip_of, soj_of, sos_of};
@@ -9,40 +12,37 @@ use arithmetic::{Condition, decrement, holds, increment};
 use operations::{Effect, Inputs, Status};
 
 /// CAI: skips by the accumulator and the word 0,,E.
-pub(crate) fn cai_effect(condition: Condition, given: Inputs, status: Status) -> Effect
-    ensures value { result ≡ cai_of condition given status }
+pub(crate) fn cai_effect(condition: Condition, given: Inputs) -> Effect
+    ensures value { result ≡ cai_of condition given }
     ensures narrow { NarrowEffect result }
 {
-    wordless(skip_if(holds(condition, given.ac, given.e), status))
+    wordless(skip_if(holds(condition, given.ac, given.e), given.status))
 }
 
 /// CAM: skips by the accumulator and the word at E.
-pub(crate) fn cam_effect(condition: Condition, given: Inputs, status: Status) -> Effect
-    ensures value { result ≡ cam_of condition given status }
+pub(crate) fn cam_effect(condition: Condition, given: Inputs) -> Effect
+    ensures value { result ≡ cam_of condition given }
     ensures narrow { NarrowEffect result }
 {
-    wordless(skip_if(holds(condition, given.ac, given.operand), status))
+    wordless(skip_if(holds(condition, given.ac, given.operand), given.status))
 }
 
 /// JUMP: jumps by the accumulator and 0.
-pub(crate) fn jump_effect(condition: Condition, given: Inputs, status: Status) -> Effect
-    ensures value { result ≡ jump_of condition given status }
+pub(crate) fn jump_effect(condition: Condition, given: Inputs) -> Effect
+    ensures value { result ≡ jump_of condition given }
     ensures narrow { NarrowEffect result }
 {
-    wordless(jump_if(holds(condition, given.ac, 0), given.e, status))
+    wordless(jump_if(holds(condition, given.ac, 0), given.e, given.status))
 }
 
 /// SKIP: skips by the word at E and 0.
-pub(crate) fn skip_effect(condition: Condition, given: Inputs, status: Status) -> Effect
-    ensures value { result ≡ skip_of condition given status }
+pub(crate) fn skip_effect(condition: Condition, given: Inputs) -> Effect
+    ensures value { result ≡ skip_of condition given }
     ensures narrow { given.operand < 2 ^ 36 → NarrowEffect result }
 {
     Effect {
-        store: None,
         a: unless_zero(given.field, given.operand),
-        a1: None,
-        status: skip_if(holds(condition, given.operand, 0), status),
-        stop: None,
+        ..wordless(skip_if(holds(condition, given.operand, 0), given.status))
     }
 }
 
@@ -58,52 +58,45 @@ fn count_and_jump(condition: Condition, sum: (u64, bool, bool), e: u64, status: 
 }
 
 /// AOJ: the accumulator plus 1.
-pub(crate) fn aoj_effect(condition: Condition, given: Inputs, status: Status) -> Effect
-    ensures value { result ≡ aoj_of condition given status }
+pub(crate) fn aoj_effect(condition: Condition, given: Inputs) -> Effect
+    ensures value { result ≡ aoj_of condition given }
     ensures narrow { NarrowEffect result }
 {
-    count_and_jump(condition, increment(given.ac), given.e, status)
+    count_and_jump(condition, increment(given.ac), given.e, given.status)
 }
 
 /// SOJ: the accumulator less 1.
-pub(crate) fn soj_effect(condition: Condition, given: Inputs, status: Status) -> Effect
-    ensures value { result ≡ soj_of condition given status }
+pub(crate) fn soj_effect(condition: Condition, given: Inputs) -> Effect
+    ensures value { result ≡ soj_of condition given }
     ensures narrow { NarrowEffect result }
 {
-    count_and_jump(condition, decrement(given.ac), given.e, status)
+    count_and_jump(condition, decrement(given.ac), given.e, given.status)
 }
 
 /// A count of the word at E, which skips by the result and 0.
-fn count_and_skip(
-    condition: Condition,
-    sum: (u64, bool, bool),
-    given: Inputs,
-    status: Status,
-) -> Effect
-    ensures value { result ≡ count_and_skip condition sum given status }
+fn count_and_skip(condition: Condition, sum: (u64, bool, bool), given: Inputs) -> Effect
+    ensures value { result ≡ count_and_skip condition sum given }
     ensures narrow { sum.0 < 2 ^ 36 → NarrowEffect result }
 {
     Effect {
         store: Some((given.e, sum.0)),
         a: unless_zero(given.field, sum.0),
-        a1: None,
-        status: skip_if(holds(condition, sum.0, 0), after_sum(sum, status)),
-        stop: None,
+        ..wordless(skip_if(holds(condition, sum.0, 0), after_sum(sum, given.status)))
     }
 }
 
 /// AOS: the word at E plus 1.
-pub(crate) fn aos_effect(condition: Condition, given: Inputs, status: Status) -> Effect
-    ensures value { result ≡ aos_of condition given status }
+pub(crate) fn aos_effect(condition: Condition, given: Inputs) -> Effect
+    ensures value { result ≡ aos_of condition given }
     ensures narrow { NarrowEffect result }
 {
-    count_and_skip(condition, increment(given.operand), given, status)
+    count_and_skip(condition, increment(given.operand), given)
 }
 
 /// SOS: the word at E less 1.
-pub(crate) fn sos_effect(condition: Condition, given: Inputs, status: Status) -> Effect
-    ensures value { result ≡ sos_of condition given status }
+pub(crate) fn sos_effect(condition: Condition, given: Inputs) -> Effect
+    ensures value { result ≡ sos_of condition given }
     ensures narrow { NarrowEffect result }
 {
-    count_and_skip(condition, decrement(given.operand), given, status)
+    count_and_skip(condition, decrement(given.operand), given)
 }

@@ -1,7 +1,6 @@
 //! IDIV.
 
-ghost use Rattle.instructions.specs.Division.{divided_to, idiv_of, quotient_to};
-ghost use Rattle.arithmetic.specs.Division.{NarrowDivision};
+ghost use Rattle.instructions.specs.Division.{idiv_of, quotient_to};
 ghost use Rattle.std.specs.Prelude.{◌≡◌, ◌^◌, ◌<◌};
 ghost use Rattle.instructions.specs.Narrow.{NarrowEffect};
 
@@ -21,30 +20,28 @@ fn quotient_to(mode: Mode, e: u64, division: Division, status: Status) -> Effect
     let remainder = Some(division.remainder);
     match mode {
         Mode::Basic | Mode::Immediate => Effect {
-            store: None,
             a: Some(quotient),
             a1: remainder,
-            status,
-            stop: None,
+            ..wordless(status)
         },
         Mode::Memory => to_memory(e, quotient, status),
         Mode::Both => Effect {
             store: Some((e, quotient)),
             a: Some(quotient),
             a1: remainder,
-            status,
-            stop: None,
+            ..wordless(status)
         },
     }
 }
 
 /// IDIV: the accumulator divided by the operand.
-pub(crate) fn idiv_effect(mode: Mode, given: Inputs, status: Status) -> Effect
-    ensures value { result ≡ idiv_of mode given status }
+pub(crate) fn idiv_effect(mode: Mode, given: Inputs) -> Effect
+    ensures value { result ≡ idiv_of mode given }
     ensures narrow { NarrowEffect result }
 {
-    match divide(given.ac, operand_of(mode, given)) {
-        None => wordless(flagged(status.flags | (OVERFLOW | NO_DIVIDE), status)),
-        Some(division) => quotient_to(mode, given.e, division, status),
-    }
+    let Some(division) = divide(given.ac, operand_of(mode, given)) else {
+        let flags = given.status.flags | (OVERFLOW | NO_DIVIDE);
+        return wordless(flagged(flags, given.status));
+    };
+    quotient_to(mode, given.e, division, given.status)
 }

@@ -1,38 +1,39 @@
 //! The jumps that look at no memory: AOBJP, AOBJN, JRST and JFCL.
+//!
+//! AOBJP and AOBJN stand each under its own name: a flag for the sign would only have the caller say which one it is.
 
 ghost use Rattle.instructions.specs.Jumps.{aobjn_of, aobjp_of, clear_and_jump, flags_from, jfcl_of, jrst_of, restored_flags};
 ghost use Rattle.instructions.specs.Narrow.{NarrowEffect};
 ghost use Rattle.std.specs.Prelude.{◌≡◌};
 
 use crate::pointers::pointer_up;
-use crate::results::{cleared, flagged, is_negative, jump_if, jumped, to_a, wordless};
+use crate::results::{cleared, flagged, jump_if, jumped, to_a, wordless};
 use logic::left;
-use operations::{Effect, Inputs, Status};
+use operations::{Effect, Inputs, Status, USER};
+use words::is_negative;
 
 /// The flags that a program may restore: Overflow, Carry 0, Carry 1, Floating Overflow, Byte Interrupt, Floating
 /// Underflow and No Divide.
 const RESTORABLE: u64 = 0o760140;
-/// The flag User, which a program cannot turn off.
-const USER: u64 = 0o010000;
 /// What the lowest bit of JFCL's accumulator field selects: Floating Overflow.
 const FLOATING_OVERFLOW: u64 = 1 << 14;
 
 /// AOBJP: 1 added to both halves of the accumulator, and a jump if it is then not negative.
-pub(crate) fn aobjp_effect(given: Inputs, status: Status) -> Effect
-    ensures value { result ≡ aobjp_of given status }
+pub(crate) fn aobjp_effect(given: Inputs) -> Effect
+    ensures value { result ≡ aobjp_of given }
     ensures narrow { NarrowEffect result }
 {
     let word = pointer_up(given.ac);
-    to_a(word, jump_if(!is_negative(word), given.e, status))
+    to_a(word, jump_if(!is_negative(word), given.e, given.status))
 }
 
 /// AOBJN: 1 added to both halves of the accumulator, and a jump if it is then negative.
-pub(crate) fn aobjn_effect(given: Inputs, status: Status) -> Effect
-    ensures value { result ≡ aobjn_of given status }
+pub(crate) fn aobjn_effect(given: Inputs) -> Effect
+    ensures value { result ≡ aobjn_of given }
     ensures narrow { NarrowEffect result }
 {
     let word = pointer_up(given.ac);
-    to_a(word, jump_if(is_negative(word), given.e, status))
+    to_a(word, jump_if(is_negative(word), given.e, given.status))
 }
 
 /// The flags that a program may restore from the left half of a word, and User.
@@ -46,22 +47,20 @@ fn restored_flags(word: u64) -> u64
 fn flags_from(flag_word: Option<u64>, status: Status) -> Status
     ensures { result ≡ flags_from flag_word status }
 {
-    match flag_word {
-        None => status,
-        Some(word) => flagged(restored_flags(word), status),
-    }
+    flag_word.map_or(status, |word| flagged(restored_flags(word), status))
 }
 
 /// JRST, which may restore the flags.
-pub(crate) fn jrst_effect(restores: bool, given: Inputs, status: Status) -> Effect
-    ensures value { result ≡ jrst_of restores given status }
+pub(crate) fn jrst_effect(restores: bool, given: Inputs) -> Effect
+    ensures value { result ≡ jrst_of restores given }
     ensures narrow { NarrowEffect result }
 {
-    if restores {
-        wordless(jumped(given.e, flags_from(given.flag_word, status)))
+    let status = if restores {
+        flags_from(given.flag_word, given.status)
     } else {
-        wordless(jumped(given.e, status))
-    }
+        given.status
+    };
+    wordless(jumped(given.e, status))
 }
 
 /// If a selected flag is on, the selected flags off and a jump.
@@ -76,9 +75,9 @@ fn clear_and_jump(which: u64, e: u64, status: Status) -> Status
 }
 
 /// JFCL: the accumulator field selects among the four highest flags.
-pub(crate) fn jfcl_effect(given: Inputs, status: Status) -> Effect
-    ensures value { result ≡ jfcl_of given status }
+pub(crate) fn jfcl_effect(given: Inputs) -> Effect
+    ensures value { result ≡ jfcl_of given }
     ensures narrow { NarrowEffect result }
 {
-    wordless(clear_and_jump(given.field % 16 * FLOATING_OVERFLOW, given.e, status))
+    wordless(clear_and_jump(given.field % 16 * FLOATING_OVERFLOW, given.e, given.status))
 }

@@ -21,8 +21,3 @@ mod sums;
 
 pub use effects::effect_of;
 pub use operands::operand_address;
-
-/// One more than the greatest address.
-const ADDRESS_LIMIT: u64 = 1 << 18;
-/// Bit 0 of a word, which is set in a negative number.
-const SIGN_BIT: u64 = 1 << 35;

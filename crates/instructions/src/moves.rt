@@ -4,10 +4,11 @@ ghost use Rattle.std.specs.Prelude.{◌≡◌, ◌^◌, ◌<◌};
 ghost use Rattle.instructions.specs.Moves.{by_move_mode, exch_of, formed, move_of, negated, source_of};
 ghost use Rattle.instructions.specs.Narrow.{NarrowEffect};
 
-use crate::results::{after_sum, is_negative, to_a, to_memory, unless_zero};
+use crate::results::{after_sum, to_a, to_memory, unless_zero, wordless};
 use arithmetic::negate;
 use logic::swap;
 use operations::{Effect, Form, Inputs, MoveMode, Status};
+use words::is_negative;
 
 /// The word that a move takes.
 fn source_of(mode: MoveMode, given: Inputs) -> u64
@@ -59,32 +60,28 @@ fn by_move_mode(mode: MoveMode, given: Inputs, word: u64, status: Status) -> Eff
         MoveMode::Own => Effect {
             store: Some((given.e, word)),
             a: unless_zero(given.field, word),
-            a1: None,
-            status,
-            stop: None,
+            ..wordless(status)
         },
     }
 }
 
 /// MOVE, MOVS, MOVN and MOVM.
-pub(crate) fn move_effect(form: Form, mode: MoveMode, given: Inputs, status: Status) -> Effect
-    ensures value { result ≡ move_of form mode given status }
+pub(crate) fn move_effect(form: Form, mode: MoveMode, given: Inputs) -> Effect
+    ensures value { result ≡ move_of form mode given }
     ensures narrow { given.ac < 2 ^ 36 → given.operand < 2 ^ 36 → given.e < 2 ^ 18 → NarrowEffect result }
 {
-    let (word, after) = formed(form, source_of(mode, given), status);
+    let (word, after) = formed(form, source_of(mode, given), given.status);
     by_move_mode(mode, given, word, after)
 }
 
 /// EXCH: the accumulator and the word at E change places.
-pub(crate) fn exch_effect(given: Inputs, status: Status) -> Effect
-    ensures value { result ≡ exch_of given status }
+pub(crate) fn exch_effect(given: Inputs) -> Effect
+    ensures value { result ≡ exch_of given }
     ensures narrow { given.ac < 2 ^ 36 → given.operand < 2 ^ 36 → NarrowEffect result }
 {
     Effect {
         store: Some((given.e, given.ac)),
         a: Some(given.operand),
-        a1: None,
-        status,
-        stop: None,
+        ..wordless(given.status)
     }
 }

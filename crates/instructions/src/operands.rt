@@ -12,6 +12,7 @@ use logic::{HalfMove, Other, left, right};
 use operations::{MaskFrom, Mode, MoveMode, Operation};
 
 /// The user address that an instruction reads as its operand, if it reads one.
+#[tactic(auto, unfolding(crate::specs::Operands::operand_at))]
 pub fn operand_address(op: Operation, e: u64, ac: u64) -> Option<u64>
     ensures { result ≡ operand_at op e ac }
 {
@@ -46,27 +47,21 @@ pub fn operand_address(op: Operation, e: u64, ac: u64) -> Option<u64>
 fn read_by_mode(mode: Mode, e: u64) -> Option<u64>
     ensures { result ≡ read_by_mode mode e }
 {
-    match mode {
-        Mode::Immediate => None,
-        Mode::Basic | Mode::Memory | Mode::Both => Some(e),
-    }
+    (mode != Mode::Immediate).then_some(e)
 }
 
 /// What a full-word move reads.
 fn read_by_move_mode(mode: MoveMode, e: u64) -> Option<u64>
     ensures { result ≡ read_by_move_mode mode e }
 {
-    match mode {
-        MoveMode::Basic | MoveMode::Own => Some(e),
-        MoveMode::Immediate | MoveMode::Memory => None,
-    }
+    matches!(mode, MoveMode::Basic | MoveMode::Own).then_some(e)
 }
 
 /// Whether a Boolean function, by its truth table, does not look at the operand.
 fn without_operand(table: u64) -> bool
     ensures { result ≡ without_operand table }
 {
-    table == 0 || table == 5 || table == 10 || table == 15
+    matches!(table, 0 | 5 | 10 | 15)
 }
 
 /// What a Boolean function reads.
@@ -84,10 +79,7 @@ fn read_by_table(table: u64, mode: Mode, e: u64) -> Option<u64>
 fn read_to_keep(other: Other, e: u64) -> Option<u64>
     ensures { result ≡ read_to_keep other e }
 {
-    match other {
-        Other::Kept => Some(e),
-        Other::Zeros | Other::Ones | Other::Extended => None,
-    }
+    (other == Other::Kept).then_some(e)
 }
 
 /// What a half-word move reads.
@@ -105,8 +97,5 @@ fn read_by_half_word(kind: HalfMove, mode: MoveMode, e: u64) -> Option<u64>
 fn read_by_mask(from: MaskFrom, e: u64) -> Option<u64>
     ensures { result ≡ read_by_mask from e }
 {
-    match from {
-        MaskFrom::Right | MaskFrom::Left => None,
-        MaskFrom::Direct | MaskFrom::Swapped => Some(e),
-    }
+    matches!(from, MaskFrom::Direct | MaskFrom::Swapped).then_some(e)
 }

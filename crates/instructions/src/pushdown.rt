@@ -1,11 +1,11 @@
 //! Pushdown lists.
 
-ghost use Rattle.std.specs.Prelude.{◌≡◌, ◌^◌, ◌<◌};
+ghost use Rattle.std.specs.Prelude.{◌≡◌, ◌^◌, ◌<◌, IfSome};
 ghost use Rattle.instructions.specs.Narrow.{NarrowEffect};
-ghost use Rattle.instructions.specs.Pushdown.{pop_of, popj_of, push_of, pushed, pushj_of, stop_at};
+ghost use Rattle.instructions.specs.Pushdown.{pop_of, popj_of, popped, push_of, pushed, pushj_of, stop_at};
 
 use crate::pointers::{pointer_down, pointer_up};
-use crate::results::jumped;
+use crate::results::{jumped, wordless};
 use crate::subroutines::{called, pc_word};
 use logic::{left, right};
 use operations::{Effect, Inputs, Status};
@@ -20,11 +20,7 @@ const EMPTY: u64 = 0o777777;
 fn stop_at(end: u64, pointer: u64) -> Option<Stop>
     ensures { result ≡ stop_at end pointer }
 {
-    if left(pointer) == end {
-        Some(Stop::PushdownOverflow)
-    } else {
-        None
-    }
+    (left(pointer) == end).then_some(Stop::PushdownOverflow)
 }
 
 /// A word to where a pointer, already moved up, says.
@@ -35,58 +31,64 @@ fn pushed(pointer: u64, word: u64, status: Status) -> Effect
     Effect {
         store: Some((right(pointer), word)),
         a: Some(pointer),
-        a1: None,
-        status,
         stop: stop_at(FULL, pointer),
+        ..wordless(status)
     }
 }
 
 /// PUSHJ: the PC word onto the list, and on at E.
-pub(crate) fn pushj_effect(given: Inputs, status: Status) -> Effect
-    ensures value { result ≡ pushj_of given status }
+pub(crate) fn pushj_effect(given: Inputs) -> Effect
+    ensures value { result ≡ pushj_of given }
     ensures narrow { NarrowEffect result }
 {
     pushed(
         pointer_up(given.ac),
-        pc_word(status),
-        called(given.e, status),
+        pc_word(given.status),
+        called(given.e, given.status),
     )
 }
 
 /// PUSH: the word at E onto the list.
-pub(crate) fn push_effect(given: Inputs, status: Status) -> Effect
-    ensures value { result ≡ push_of given status }
+pub(crate) fn push_effect(given: Inputs) -> Effect
+    ensures value { result ≡ push_of given }
     ensures narrow { given.operand < 2 ^ 36 → NarrowEffect result }
 {
-    pushed(pointer_up(given.ac), given.operand, status)
+    pushed(pointer_up(given.ac), given.operand, given.status)
+}
+
+/// A pointer, already moved down, and the store that goes with it.
+fn popped(store: Option<(u64, u64)>, pointer: u64, status: Status) -> Effect
+    ensures value { result ≡ popped store pointer status }
+    ensures narrow { IfSome store (λ s. s.1 < 2 ^ 36) → pointer < 2 ^ 36 → NarrowEffect result }
+{
+    Effect {
+        store,
+        a: Some(pointer),
+        stop: stop_at(EMPTY, pointer),
+        ..wordless(status)
+    }
 }
 
 /// POP: the last word of the list to E.
-pub(crate) fn pop_effect(given: Inputs, status: Status) -> Effect
-    ensures value { result ≡ pop_of given status }
+pub(crate) fn pop_effect(given: Inputs) -> Effect
+    ensures value { result ≡ pop_of given }
     ensures narrow { given.operand < 2 ^ 36 → NarrowEffect result }
 {
-    let pointer = pointer_down(given.ac);
-    Effect {
-        store: Some((given.e, given.operand)),
-        a: Some(pointer),
-        a1: None,
-        status,
-        stop: stop_at(EMPTY, pointer),
-    }
+    popped(
+        Some((given.e, given.operand)),
+        pointer_down(given.ac),
+        given.status,
+    )
 }
 
 /// POPJ: on at the right half of the last word of the list.
-pub(crate) fn popj_effect(given: Inputs, status: Status) -> Effect
-    ensures value { result ≡ popj_of given status }
+pub(crate) fn popj_effect(given: Inputs) -> Effect
+    ensures value { result ≡ popj_of given }
     ensures narrow { NarrowEffect result }
 {
-    let pointer = pointer_down(given.ac);
-    Effect {
-        store: None,
-        a: Some(pointer),
-        a1: None,
-        status: jumped(right(given.operand), status),
-        stop: stop_at(EMPTY, pointer),
-    }
+    popped(
+        None,
+        pointer_down(given.ac),
+        jumped(right(given.operand), given.status),
+    )
 }

@@ -1,14 +1,12 @@
 //! What the effects of the instructions are made of: where a result goes, and where the program goes on.
 
 ghost use Rattle.std.specs.Prelude.{◌≡◌, ◌^◌, ◌<◌};
-ghost use Rattle.words.specs.Signed.{is_negative};
 ghost use Rattle.instructions.specs.Narrow.{NarrowEffect};
 ghost use Rattle.instructions.specs.Results.{after_sum, by_mode, cleared, flagged, following, jump_if, jumped, operand_of, skip_if, to_a, to_memory, unless_zero, wordless};
 
-use crate::{ADDRESS_LIMIT, SIGN_BIT};
 use arithmetic::flags_after;
 use operations::{Effect, Inputs, Mode, Status};
-use words::WORD_LIMIT;
+use words::HALF_LIMIT;
 
 /// No word changes.
 pub(crate) fn wordless(status: Status) -> Effect
@@ -30,11 +28,8 @@ pub(crate) fn to_a(word: u64, status: Status) -> Effect
     ensures narrow { word < 2 ^ 36 → NarrowEffect result }
 {
     Effect {
-        store: None,
         a: Some(word),
-        a1: None,
-        status,
-        stop: None,
+        ..wordless(status)
     }
 }
 
@@ -45,10 +40,7 @@ pub(crate) fn to_memory(e: u64, word: u64, status: Status) -> Effect
 {
     Effect {
         store: Some((e, word)),
-        a: None,
-        a1: None,
-        status,
-        stop: None,
+        ..wordless(status)
     }
 }
 
@@ -56,7 +48,7 @@ pub(crate) fn to_memory(e: u64, word: u64, status: Status) -> Effect
 pub(crate) fn unless_zero(field: u64, word: u64) -> Option<u64>
     ensures { result ≡ unless_zero field word }
 {
-    if field == 0 { None } else { Some(word) }
+    (field != 0).then_some(word)
 }
 
 /// The operand of an arithmetic or Boolean instruction.
@@ -80,9 +72,7 @@ pub(crate) fn by_mode(mode: Mode, e: u64, word: u64, status: Status) -> Effect
         Mode::Both => Effect {
             store: Some((e, word)),
             a: Some(word),
-            a1: None,
-            status,
-            stop: None,
+            ..wordless(status)
         },
     }
 }
@@ -91,17 +81,14 @@ pub(crate) fn by_mode(mode: Mode, e: u64, word: u64, status: Status) -> Effect
 pub(crate) fn flagged(flags: u64, status: Status) -> Status
     ensures { result ≡ flagged flags status }
 {
-    Status {
-        pc: status.pc,
-        flags,
-    }
+    Status { flags, ..status }
 }
 
 /// The flags with some of them off.
 pub(crate) fn cleared(which: u64, flags: u64) -> u64
     ensures { result ≡ cleared which flags }
 {
-    flags - (flags & which)
+    flags & !which
 }
 
 /// The status after a sum with its two carries.
@@ -115,17 +102,14 @@ pub(crate) fn after_sum(sum: (u64, bool, bool), status: Status) -> Status
 pub(crate) fn following(e: u64) -> u64
     ensures { result ≡ following e }
 {
-    (e % ADDRESS_LIMIT + 1) % ADDRESS_LIMIT
+    (e % HALF_LIMIT + 1) % HALF_LIMIT
 }
 
 /// The program goes on at `e`.
 pub(crate) fn jumped(e: u64, status: Status) -> Status
     ensures { result ≡ jumped e status }
 {
-    Status {
-        pc: e,
-        flags: status.flags,
-    }
+    Status { pc: e, ..status }
 }
 
 /// The program goes on at `e` if it is to jump.
@@ -144,11 +128,4 @@ pub(crate) fn skip_if(skips: bool, status: Status) -> Status
     } else {
         status
     }
-}
-
-/// Whether bit 0 of a word is set.
-pub(crate) fn is_negative(word: u64) -> bool
-    ensures { result ≡ is_negative word }
-{
-    word % WORD_LIMIT >= SIGN_BIT
 }

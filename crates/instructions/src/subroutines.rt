@@ -4,7 +4,7 @@ ghost use Rattle.std.specs.Prelude.{◌≡◌, ◌^◌, ◌<◌};
 ghost use Rattle.instructions.specs.Narrow.{NarrowEffect};
 ghost use Rattle.instructions.specs.Subroutines.{called, jra_of, jsa_of, jsp_of, jsr_of, pc_word};
 
-use crate::results::{cleared, following, jumped, to_a, to_memory};
+use crate::results::{cleared, following, jumped, to_a, to_memory, wordless};
 use logic::from_halves;
 use operations::{Effect, Inputs, Status};
 
@@ -30,39 +30,41 @@ pub(crate) fn called(e: u64, status: Status) -> Status
 }
 
 /// JSR: the PC word to E, and on at E + 1.
-pub(crate) fn jsr_effect(given: Inputs, status: Status) -> Effect
-    ensures value { result ≡ jsr_of given status }
+pub(crate) fn jsr_effect(given: Inputs) -> Effect
+    ensures value { result ≡ jsr_of given }
     ensures narrow { NarrowEffect result }
 {
-    to_memory(given.e, pc_word(status), called(following(given.e), status))
+    to_memory(
+        given.e,
+        pc_word(given.status),
+        called(following(given.e), given.status),
+    )
 }
 
 /// JSP: the PC word to the accumulator, and on at E.
-pub(crate) fn jsp_effect(given: Inputs, status: Status) -> Effect
-    ensures value { result ≡ jsp_of given status }
+pub(crate) fn jsp_effect(given: Inputs) -> Effect
+    ensures value { result ≡ jsp_of given }
     ensures narrow { NarrowEffect result }
 {
-    to_a(pc_word(status), called(given.e, status))
+    to_a(pc_word(given.status), called(given.e, given.status))
 }
 
 /// JSA: the accumulator to E, the word E,,PC to the accumulator, and on at E + 1.
-pub(crate) fn jsa_effect(given: Inputs, status: Status) -> Effect
-    ensures value { result ≡ jsa_of given status }
+pub(crate) fn jsa_effect(given: Inputs) -> Effect
+    ensures value { result ≡ jsa_of given }
     ensures narrow { given.ac < 2 ^ 36 → NarrowEffect result }
 {
     Effect {
         store: Some((given.e, given.ac)),
-        a: Some(from_halves(given.e, status.pc)),
-        a1: None,
-        status: jumped(following(given.e), status),
-        stop: None,
+        a: Some(from_halves(given.e, given.status.pc)),
+        ..wordless(jumped(following(given.e), given.status))
     }
 }
 
 /// JRA: the word that the left half of the accumulator addresses to the accumulator, and on at E.
-pub(crate) fn jra_effect(given: Inputs, status: Status) -> Effect
-    ensures value { result ≡ jra_of given status }
+pub(crate) fn jra_effect(given: Inputs) -> Effect
+    ensures value { result ≡ jra_of given }
     ensures narrow { given.operand < 2 ^ 36 → NarrowEffect result }
 {
-    to_a(given.operand, jumped(given.e, status))
+    to_a(given.operand, jumped(given.e, given.status))
 }

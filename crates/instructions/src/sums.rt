@@ -8,20 +8,36 @@ use crate::results::{after_sum, by_mode, operand_of};
 use arithmetic::{add, subtract};
 use operations::{Effect, Inputs, Mode, Status};
 
+/// A sum to where the mode puts it, and the flags that its carries raise.
+fn sum_to(mode: Mode, e: u64, sum: (u64, bool, bool), status: Status) -> Effect
+    ensures value { result ≡ sum_to mode e sum status }
+    ensures narrow { sum.0 < 2 ^ 36 → NarrowEffect result }
+{
+    by_mode(mode, e, sum.0, after_sum(sum, status))
+}
+
 /// ADD: the accumulator plus the operand.
-pub(crate) fn add_effect(mode: Mode, given: Inputs, status: Status) -> Effect
-    ensures value { result ≡ add_of mode given status }
+pub(crate) fn add_effect(mode: Mode, given: Inputs) -> Effect
+    ensures value { result ≡ add_of mode given }
     ensures narrow { NarrowEffect result }
 {
-    let sum = add(given.ac, operand_of(mode, given), false);
-    by_mode(mode, given.e, sum.0, after_sum(sum, status))
+    sum_to(
+        mode,
+        given.e,
+        add(given.ac, operand_of(mode, given), false),
+        given.status,
+    )
 }
 
 /// SUB: the accumulator less the operand.
-pub(crate) fn sub_effect(mode: Mode, given: Inputs, status: Status) -> Effect
-    ensures value { result ≡ sub_of mode given status }
+pub(crate) fn sub_effect(mode: Mode, given: Inputs) -> Effect
+    ensures value { result ≡ sub_of mode given }
     ensures narrow { NarrowEffect result }
 {
-    let difference = subtract(given.ac, operand_of(mode, given));
-    by_mode(mode, given.e, difference.0, after_sum(difference, status))
+    sum_to(
+        mode,
+        given.e,
+        subtract(given.ac, operand_of(mode, given)),
+        given.status,
+    )
 }

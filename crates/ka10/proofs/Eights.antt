@@ -1,10 +1,11 @@
 -- Numbers among bytes: reading one, and writing them one after another.
-use Rattle.std.proofs.Common.{◌≡◌, ℕ, zero, suc, ◌+◌, ◌-◌, ◌*◌, ◌/◌, ◌%◌, ◌^◌, ◌<◌, ◌≤◌, List, [], ◌∷◌, ◌++◌, length, get_or, take, drop, sym, refl, ap, ◌∙◌, ⊎_elim, arith}
+use Rattle.std.proofs.Common.{◌≡◌, ℕ, zero, suc, ◌+◌, ◌*◌, ◌/◌, ◌%◌, ◌^◌, ◌<◌, ◌≤◌, List, [], ◌∷◌, ◌++◌, length, get_or, take, drop, sym, refl, ap, ◌∙◌, arith}
 use Rattle.ka10.specs.Numbers.{number, numbers, encoded, Wide, ReadAsWritten}
-use Rattle.ka10.specs.Records.{record_in, record_of, record_bytes}
+use Rattle.ka10.specs.Records.{record_in, record_of, record_numbers, record_bytes}
 use Rattle.ka10.specs.declared.records.Record.{Record}
-use Rattle.std.proofs.lemmas.List.{append_assoc, append-nil, get_or_append_left, get_or-append_right, drop_all, drop_at, drop-drop, length-drop, length-take-le, take_all, take_at}
-use Rattle.std.proofs.lemmas.Bool.{cases_lt}
+use Rattle.std.specs.Simd.{first_chunks}
+use borrow.Rule.Slice.PartMut.{put_mid}
+use Rattle.std.proofs.lemmas.List.{append_assoc, append-nil, get_or-append_right, drop_all, drop_at, drop-drop, length-take-le, take_all, take_at}
 
 -- what holds of every list shorter than eight, and of eight elements more wherever it holds, holds of every list
 by-eights : (P : List ℕ → Type 0) → ((bs : List ℕ) → length bs < 8 → P bs) → ((a b c d e f g h : ℕ) (bs : List ℕ) → P bs → P (a ∷ b ∷ c ∷ d ∷ e ∷ f ∷ g ∷ h ∷ bs)) → (bs : List ℕ) → P bs
@@ -18,29 +19,22 @@ by-eights P short eight (a ∷ b ∷ []) = short (a ∷ b ∷ []) (omega arith)
 by-eights P short eight (a ∷ []) = short (a ∷ []) (omega arith)
 by-eights P short eight [] = short [] (omega arith)
 
--- the number at byte p
-abbrev number_at : List ℕ → ℕ → ℕ
-number_at bs p = number (get_or bs p 0) (get_or bs (p + 1) 0) (get_or bs (p + 2) 0) (get_or bs (p + 3) 0) (get_or bs (p + 4) 0) (get_or bs (p + 5) 0) (get_or bs (p + 6) 0) (get_or bs (p + 7) 0)
+-- the number of eight bytes
+abbrev pub number_of : List ℕ → ℕ
+number_of bs = number (get_or bs 0 0) (get_or bs 1 0) (get_or bs 2 0) (get_or bs 3 0) (get_or bs 4 0) (get_or bs 5 0) (get_or bs 6 0) (get_or bs 7 0)
 
--- the next number is eight bytes further on
-eight : (k c : ℕ) → 8 * suc k + c ≡ suc (suc (suc (suc (suc (suc (suc (suc (8 * k + c))))))))
-eight k c = omega arith
-
-eight₀ : (k : ℕ) → 8 * suc k ≡ suc (suc (suc (suc (suc (suc (suc (suc (8 * k))))))))
-eight₀ k = omega arith
-
+-- the k-th eight of the first n holds the k-th number
 abbrev ReadsNumber : List ℕ → Type 0
-ReadsNumber bs = (k : ℕ) → 8 * k + 8 ≤ length bs → get_or (numbers bs) k 0 ≡ number_at bs (8 * k)
+ReadsNumber bs = (k n : ℕ) (d : List ℕ) → k < n → 8 * n ≤ length bs → get_or (numbers bs) k 0 ≡ number_of (get_or (first_chunks 8 n bs) k d)
 
 reads_more : (a b c d e f g h : ℕ) (bs : List ℕ) → ReadsNumber bs → ReadsNumber (a ∷ b ∷ c ∷ d ∷ e ∷ f ∷ g ∷ h ∷ bs)
 unfolding numbers
-reads_more a b c d e f g h bs again zero l = refl
-reads_more a b c d e f g h bs again (suc k) l =
-    let less : 8 * k + 8 ≤ length bs = omega arith in
-    rw (eight k 1, eight k 2, eight k 3, eight k 4, eight k 5, eight k 6, eight k 7, eight₀ k) (again k less)
+reads_more a b c d e f g h bs again k zero x l m = absurd (omega arith)
+reads_more a b c d e f g h bs again zero (suc n) x l m = refl
+reads_more a b c d e f g h bs again (suc k) (suc n) x l m = again k n x (omega arith) (omega arith)
 
 pub get_or-numbers : (bs : List ℕ) → ReadsNumber bs
-get_or-numbers = by-eights ReadsNumber (λ bs short k l. absurd (omega arith)) reads_more
+get_or-numbers = by-eights ReadsNumber (λ bs short k n x l m. absurd (omega arith)) reads_more
 
 numbers-short : (bs : List ℕ) → length bs < 8 → numbers bs ≡ []
 unfolding numbers
@@ -96,13 +90,9 @@ unfolding encoded
 encoded-append [] ns = refl
 encoded-append (m ∷ ms) ns = ap (λ (t : List ℕ). encoded (m ∷ []) ++ t) (encoded-append ms ns)
 
--- a buffer of 160 bytes after its first 128 and then its last 32 were written
-pub two-parts : (old a b : List ℕ) → length a ≡ 128 → length b ≡ 32 → length old ≡ 160 → take 128 (a ++ drop 128 old) ++ (b ++ drop 32 (drop 128 (a ++ drop 128 old))) ≡ a ++ b
-two-parts old a b la lb lo =
-    let front = take_at a (drop 128 old) 128 la in
-    let back = drop_at a (drop 128 old) 128 la in
-    let none : drop 32 (drop 128 old) ≡ [] = drop_all 32 (drop 128 old) (omega (arith, length-drop 128 old)) in
-    rw (front, back, none) (ap (λ (t : List ℕ). a ++ t) (append-nil b))
+-- twenty numbers after the first sixteen and then the last four were written
+pub in_turn : (a b : List ℕ) → length a ≡ 16 → put_mid 16 4 (a ++ 0 ∷ 0 ∷ 0 ∷ 0 ∷ []) b ≡ a ++ b
+in_turn a b l = rw (take_at a (0 ∷ 0 ∷ 0 ∷ 0 ∷ []) 16 l, drop_at a (0 ∷ 0 ∷ 0 ∷ 0 ∷ []) 16 l) (ap (λ (t : List ℕ). a ++ t) (append-nil b))
 
 number-back : (n : ℕ) → n < 2 ^ 64 → number (n / 2 ^ 56 % 2 ^ 8) (n / 2 ^ 48 % 2 ^ 8) (n / 2 ^ 40 % 2 ^ 8) (n / 2 ^ 32 % 2 ^ 8) (n / 2 ^ 24 % 2 ^ 8) (n / 2 ^ 16 % 2 ^ 8) (n / 2 ^ 8 % 2 ^ 8) (n % 2 ^ 8) ≡ n
 number-back n l = omega arith
@@ -115,13 +105,6 @@ read-as-written (n ∷ ns) wide =
     let rest = read-as-written ns (λ k. wide (suc k)) in
     cc
 
-wide-append : (ms ns : List ℕ) → Wide ms → Wide ns → Wide (ms ++ ns)
-wide-append ms ns v w k =
-    ⊎_elim
-    (λ (l : k < length ms). omega (arith, get_or_append_left ms ns 0 k l, v k))
-    (λ (l : length ms ≤ k). omega (arith, get_or-append_right ms ns (length ms) k 0 refl l, w (k - length ms)))
-    (cases_lt k (length ms))
-
 in-places : (p : Record) → length p.accumulators ≡ 16 → record_in (p.accumulators ++ (p.pc ∷ p.flags ∷ p.count ∷ p.allowance ∷ [])) ≡ p
 in-places p sixteen =
     let last = p.pc ∷ p.flags ∷ p.count ∷ p.allowance ∷ [] in
@@ -133,5 +116,5 @@ in-places p sixteen =
     rw (a, b, c, d, e)
 
 -- a record is read as it was written
-pub record-as-written : (p : Record) → length p.accumulators ≡ 16 → Wide p.accumulators → Wide (p.pc ∷ p.flags ∷ p.count ∷ p.allowance ∷ []) → record_of (record_bytes p) ≡ p
-record-as-written p sixteen v w = ap record_in (read-as-written (p.accumulators ++ (p.pc ∷ p.flags ∷ p.count ∷ p.allowance ∷ [])) (wide-append p.accumulators _ v w)) ∙ in-places p sixteen
+pub record-as-written : (p : Record) → length p.accumulators ≡ 16 → Wide (record_numbers p) → record_of (record_bytes p) ≡ p
+record-as-written p sixteen w = ap record_in (read-as-written (record_numbers p) w) ∙ in-places p sixteen

@@ -2,7 +2,7 @@
 use Rattle.std.proofs.Common.{◌≡◌, ℕ, ◌+◌, ◌-◌, ◌*◌, ◌<◌, ◌≤◌, List, ◌++◌, length, get_or, take, drop, sym, ap, ◌∙◌, subst, arith, take-add}
 use Rattle.operations.specs.declared.effect.Status.{Status}
 use Rattle.packed.proofs.Parts.{unpack-take, unpack-drop}
-use Rattle.ka10.specs.Calls.{lent, outcome, record_after, Done}
+use Rattle.ka10.specs.Calls.{outcome, record_after, Ran}
 use Rattle.ka10.specs.declared.records.Record.{Record}
 use Rattle.machine.specs.Steps.{machine, run_of, Replied, replied}
 use Rattle.machine.specs.User.{user_of}
@@ -100,16 +100,15 @@ module _ (core block' : List ℕ) (base blocks : ℕ) (inside : 1024 * (base + b
   above_kept : drop (4608 * (base + blocks)) core' ≡ drop (4608 * (base + blocks)) core
   above_kept = drop-put_mid (4608 * base) (4608 * blocks) core block' (4608 * (base + blocks)) (omega arith) (omega (arith, long)) as_long
 
-  done-in-whole : (p : Record) (steps : ℕ) (program program' reply reply' : List ℕ) → Done 0 blocks p (outcome p 0 blocks steps (block_of core base blocks)) (lent (block_of core base blocks) program reply) (lent block' program' reply') → Done base blocks p (outcome p base blocks steps core) (lent core program reply) (lent core' program' reply')
-  done-in-whole p steps program program' reply reply' h =
+  ran-in-whole : (p : Record) (steps : ℕ) (left : Record) (numbers : List ℕ) → Ran 0 blocks p (outcome p 0 blocks steps (block_of core base blocks)) (block_of core base blocks) block' left numbers → Ran base blocks p (outcome p base blocks steps core) core core' left numbers
+  ran-in-whole p steps left numbers h =
       let status : Status = record { pc = p.pc; flags = p.flags } in
       let out = outcome p 0 blocks steps (block_of core base blocks) in
       let same : out ≡ outcome p base blocks steps core = ap (λ (u : List ℕ). replied (run_of steps (machine u status))) (sym (user-in-block p.accumulators core base blocks inside)) in
-      subst (λ (o : Replied). Done base blocks p o (lent core program reply) (lent core' program' reply')) same
+      subst (λ (o : Replied). Ran base blocks p o core core' left numbers) same
       (record {
-        reply = h.reply;
         program = h.program;
-        again = h.again;
+        reply = h.reply;
         user =
             user-in-block (record_after p out).accumulators core' base blocks inside-then
             ∙ ap (λ (b : List ℕ). user_of (record_after p out).accumulators 0 blocks (packed_words b)) block-then
@@ -119,7 +118,7 @@ module _ (core block' : List ℕ) (base blocks : ℕ) (inside : 1024 * (base + b
       })
 
   -- what a run in the block leaves is what a run in the core leaves; n is the block's length as the code computes it
-  pub done-in-core : (p : Record) (steps : ℕ) (program program' reply reply' : List ℕ) (n : ℕ) → n ≡ 4608 * blocks → Done 0 blocks p (outcome p 0 blocks steps (take n (drop (4608 * base) core))) (lent (take n (drop (4608 * base) core)) program reply) (lent block' program' reply') → Done base blocks p (outcome p base blocks steps core) (lent core program reply) (lent (put_mid (4608 * base) n core block') program' reply')
-  done-in-core p steps program program' reply reply' n e =
-      subst (λ k. Done 0 blocks p (outcome p 0 blocks steps (take k (drop (4608 * base) core))) (lent (take k (drop (4608 * base) core)) program reply) (lent block' program' reply') → Done base blocks p (outcome p base blocks steps core) (lent core program reply) (lent (put_mid (4608 * base) k core block') program' reply'))
-      (sym e) (done-in-whole p steps program program' reply reply')
+  pub ran-in-core : (p : Record) (steps : ℕ) (left : Record) (numbers : List ℕ) (n : ℕ) → n ≡ 4608 * blocks → Ran 0 blocks p (outcome p 0 blocks steps (take n (drop (4608 * base) core))) (take n (drop (4608 * base) core)) block' left numbers → Ran base blocks p (outcome p base blocks steps core) core (put_mid (4608 * base) n core block') left numbers
+  ran-in-core p steps left numbers n e =
+      subst (λ k. Ran 0 blocks p (outcome p 0 blocks steps (take k (drop (4608 * base) core))) (take k (drop (4608 * base) core)) block' left numbers → Ran base blocks p (outcome p base blocks steps core) core (put_mid (4608 * base) k core block') left numbers)
+      (sym e) (ran-in-whole p steps left numbers)

@@ -1,12 +1,11 @@
 -- The tests of a call, in their order.
-use Rattle.std.proofs.Common.{◌≡◌, ℕ, ◌+◌, ◌*◌, ◌/◌, ◌≤◌, Bool, true, false, ◌&&◌, eqb, leb, List, length, Ok, Err, Result, sym, refl, ap, ◌∙◌, arith}
-use Rattle.ka10.specs.Calls.{whole_blocks, in_core, good_steps, unless, admitted}
+use Rattle.std.proofs.Common.{◌≡◌, ℕ, ◌+◌, ◌*◌, ◌/◌, ◌≤◌, Bool, true, false, List, length, Ok, Result, refl, ap, ◌∙◌, arith}
+use Rattle.ka10.specs.Calls.{unless, admitted}
 use Rattle.ka10.specs.Records.{record_of, good_record}
 use Rattle.ka10.specs.declared.records.Record.{Record}
-use Rattle.std.proofs.lemmas.Bool.{cond-true, cond-false, and_parts, leb-true, eqb-true}
+use Rattle.std.proofs.lemmas.Bool.{and_parts, leb-true, eqb-true}
 use Rattle.words.specs.Word.{are_words}
 use Rattle.words.specs.declared.refusal.Refusal.{Refusal}
-use Rattle.words.specs.declared.refusal.Refusal.TheVariants.{CoreNotWholeBlocks, PlaceOutsideCore, BadRecord, BadStepsOrSkip, AllowanceExceeded}
 
 -- what is known of a record that is good
 pub record Good (p : Record) : Type 0 where
@@ -21,43 +20,6 @@ good-parts p h =
     let c = and_parts _ _ b.0 in
     let d = and_parts _ _ c.0 in
     record { words = d.0; count = leb-true _ _ b.1; allowance = leb-true _ _ a.1 }
-
-module _ (words base blocks steps : ℕ) (bytes : List ℕ) (n : ℕ) where
-  abbrev Answer : Result Record Refusal → Type 0
-  Answer r = r ≡ admitted words base blocks steps bytes n
-
-  pub refused-core : whole_blocks words ≡ false → Answer (Err CoreNotWholeBlocks)
-  unfolding admitted
-  refused-core a = sym (cond-false _ _ _ a)
-
-  module _ (a : whole_blocks words ≡ true) where
-    pub refused-place : in_core words base blocks ≡ false → Answer (Err PlaceOutsideCore)
-    unfolding admitted
-    refused-place b = sym (cond-true _ _ _ a ∙ cond-false _ _ _ b)
-
-    module _ (b : in_core words base blocks ≡ true) where
-      pub refused-lengths : (eqb (length bytes) 160 && eqb n 24) ≡ false → Answer (Err BadRecord)
-      unfolding admitted
-      refused-lengths c = sym (cond-true _ _ _ a ∙ cond-true _ _ _ b ∙ cond-false _ _ _ c)
-
-      module _ (c : (eqb (length bytes) 160 && eqb n 24) ≡ true) where
-        pub refused-record : good_record (record_of bytes) ≡ false → Answer (Err BadRecord)
-        unfolding admitted
-        refused-record d = sym (cond-true _ _ _ a ∙ cond-true _ _ _ b ∙ cond-true _ _ _ c ∙ cond-false _ _ _ d)
-
-        module _ (d : good_record (record_of bytes) ≡ true) where
-          pub refused-steps : good_steps steps ≡ false → Answer (Err BadStepsOrSkip)
-          unfolding admitted
-          refused-steps e = sym (cond-true _ _ _ a ∙ cond-true _ _ _ b ∙ cond-true _ _ _ c ∙ cond-true _ _ _ d ∙ cond-false _ _ _ e)
-
-          module _ (e : good_steps steps ≡ true) where
-            pub refused-allowance : leb ((record_of bytes).count + steps) (record_of bytes).allowance ≡ false → Answer (Err AllowanceExceeded)
-            unfolding admitted
-            refused-allowance f = sym (cond-true _ _ _ a ∙ cond-true _ _ _ b ∙ cond-true _ _ _ c ∙ cond-true _ _ _ d ∙ cond-true _ _ _ e ∙ cond-false _ _ _ f)
-
-            pub not-refused : leb ((record_of bytes).count + steps) (record_of bytes).allowance ≡ true → Answer (Ok (record_of bytes))
-            unfolding admitted
-            not-refused f = sym (cond-true _ _ _ a ∙ cond-true _ _ _ b ∙ cond-true _ _ _ c ∙ cond-true _ _ _ d ∙ cond-true _ _ _ e ∙ cond-true _ _ _ f)
 
 -- a test that did not refuse
 passed : (test : Bool) (e : Refusal) (next : Result Record Refusal) (p : Record) → Ok p ≡ unless test e next → (test ≡ true) × (Ok p ≡ next)

@@ -66,8 +66,19 @@ record_after p out =
     }
 
 -- steps done, stop and word
+abbrev pub reply_numbers : Replied → List ℕ
+reply_numbers out = out.steps ∷ stop_number out.stop ∷ stop_word out.stop ∷ []
+
 abbrev pub reply_bytes : Replied → List ℕ
-reply_bytes out = encoded (out.steps ∷ stop_number out.stop ∷ stop_word out.stop ∷ [])
+reply_bytes out = encoded (reply_numbers out)
+
+-- what a run leaves in a core, with the record and the numbers of the reply that are to be written
+pub record Ran (base blocks : ℕ) (p : Record) (out : Replied) (before after : List ℕ) (left : Record) (numbers : List ℕ) : Type 0 where
+  pub program : left ≡ record_after p out
+  pub reply : numbers ≡ reply_numbers out
+  pub user : user_of (record_after p out).accumulators base blocks (packed_words after) ≡ out.after.user
+  pub below : take (4608 * base + 72) after ≡ take (4608 * base + 72) before
+  pub above : drop (4608 * (base + blocks)) after ≡ drop (4608 * (base + blocks)) before
 
 -- what a run by bytes leaves: the reply, and the record, which is read as it was written; in the core, the program's
 -- words as after the run, and every other byte as it was. 4,608 bytes hold a block, and 72 its lowest sixteen words
@@ -79,11 +90,21 @@ pub record Done (base blocks : ℕ) (p : Record) (out : Replied) (before after :
   pub below : take (4608 * base + 72) after.core ≡ take (4608 * base + 72) before.core
   pub above : drop (4608 * (base + blocks)) after.core ≡ drop (4608 * (base + blocks)) before.core
 
--- refused, a call changes nothing and its result is the refusal's number; else it makes the run and its result is 0
-abbrev pub Answered : Result Record Refusal → ℕ → ℕ → ℕ → Lent → Lent → ℕ → Type 0
-Answered (Err e) base blocks steps before after r = (r ≡ number_of e) × (after ≡ before)
-Answered (Ok p) base blocks steps before after r = (r ≡ 0) × Done base blocks p (outcome p base blocks steps before.core) before after
+-- refused, a call changes nothing and answers the refusal; else it makes the run
+abbrev pub Answered : Result Record Refusal → ℕ → ℕ → ℕ → Lent → Lent → Result (Unit {0}) Refusal → Type 0
+Answered (Err e) base blocks steps before after r = (r ≡ Err e) × (after ≡ before)
+Answered (Ok p) base blocks steps before after r = (r ≡ Ok tt) × Done base blocks p (outcome p base blocks steps before.core) before after
 
-abbrev pub RunsByBytes : ℕ → ℕ → ℕ → Lent → Lent → ℕ → Type 0
+abbrev pub RunsByBytes : ℕ → ℕ → ℕ → Lent → Lent → Result (Unit {0}) Refusal → Type 0
 RunsByBytes base blocks steps before after r =
     Answered (admitted (length (packed_words before.core)) base blocks steps before.program (length before.reply)) base blocks steps before after r
+
+-- an answer as a number: 0, or the refusal's
+abbrev pub answer_number : Result (Unit {0}) Refusal → ℕ
+answer_number (Ok u) = 0
+answer_number (Err e) = number_of e
+
+-- the same call, whose answer comes as a number
+abbrev pub RunsByNumber : ℕ → ℕ → ℕ → Lent → Lent → ℕ → Type 0
+RunsByNumber base blocks steps before after n =
+    (r : Result (Unit {0}) Refusal) × RunsByBytes base blocks steps before after r × (n ≡ answer_number r)

@@ -12,9 +12,13 @@ record_in ns = record { accumulators = take 16 ns; pc = slice_index ns 16; flags
 abbrev pub record_of : List ℕ → Record
 record_of bytes = record_in (numbers bytes)
 
+-- its twenty numbers
+abbrev pub record_numbers : Record → List ℕ
+record_numbers p = p.accumulators ++ (p.pc ∷ p.flags ∷ p.count ∷ p.allowance ∷ [])
+
 -- the bytes that hold this record
 abbrev pub record_bytes : Record → List ℕ
-record_bytes p = encoded (p.accumulators ++ (p.pc ∷ p.flags ∷ p.count ∷ p.allowance ∷ []))
+record_bytes p = encoded (record_numbers p)
 
 -- Overflow, Carry 0, Carry 1, Floating Overflow, Byte Interrupt, User, Floating Underflow and No Divide
 abbrev pub listed_flags : ℕ

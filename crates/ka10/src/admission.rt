@@ -1,72 +1,77 @@
 ghost use Rattle.ka10.specs.Calls.{whole_blocks, in_core, good_steps, admitted};
 ghost use Rattle.std.specs.Prelude.{◌≡◌};
 
-use crate::reading::{good_record, read_record};
+use crate::numbers::read_numbers;
 use crate::records::Record;
+use memory::BLOCK_WORDS;
 use words::Refusal;
-
-/// A block has this many words.
-const BLOCK: u64 = 1024;
-
-/// A record has this many bytes.
-const RECORD_BYTES: usize = 160;
 
 /// A reply has this many bytes.
 const REPLY_BYTES: usize = 24;
 
 const MOST_STEPS: u64 = 1_000_000;
 
+/// What a caller asks for: so many steps of the program in the place of so many blocks from block `base` on.
+#[derive(Clone, Copy, PartialEq, Eq, Debug)]
+pub struct Request {
+    pub base: u64,
+    pub blocks: u64,
+    pub steps: u64,
+}
+
 /// Whether a core of so many words is whole blocks, one at least.
 fn whole_blocks(words: u64) -> bool
     ensures { result ≡ whole_blocks words }
 {
-    words >= BLOCK && words % BLOCK == 0
+    words >= BLOCK_WORDS && words % BLOCK_WORDS == 0
 }
 
-/// Whether a place lies in a core of so many words.
-fn in_core(words: u64, base: u64, blocks: u64) -> bool
-    ensures { result ≡ in_core words base blocks }
-{
-    let most = words / BLOCK;
-    blocks >= 1 && blocks <= most && base <= most - blocks
-}
+impl Request {
+    /// Whether the place lies in a core of so many words.
+    fn is_in_core(&self, words: u64) -> bool
+        ensures { result ≡ in_core words self.now.base self.now.blocks }
+    {
+        let most = words / BLOCK_WORDS;
+        (1..=most).contains(&self.blocks) && self.base <= most - self.blocks
+    }
 
-/// Whether a run may be of so many steps.
-fn good_steps(steps: u64) -> bool
-    ensures { result ≡ good_steps steps }
-{
-    steps >= 1 && steps <= MOST_STEPS
-}
+    /// Whether a run may be of so many steps.
+    fn has_good_steps(&self) -> bool
+        ensures { result ≡ good_steps self.now.steps }
+    {
+        (1..=MOST_STEPS).contains(&self.steps)
+    }
 
-/// The record that a run is made with, or the first refusal that applies.
-pub(crate) fn admit(
-    words: u64,
-    base: u64,
-    blocks: u64,
-    steps: u64,
-    bytes: &[u8],
-    reply_length: usize,
-) -> Result<Record, Refusal>
-    ensures { result ≡ admitted words base blocks steps bytes.now reply_length }
-{
-    if !whole_blocks(words) {
-        return Err(Refusal::CoreNotWholeBlocks);
+    /// The record that a run is made with, or the first refusal that applies.
+    #[tactic(auto, using(std::proofs::lemmas::Bool::Decides::nat_tests), unfolding(crate::specs::Calls::admitted))]
+    pub(crate) fn admit(
+        &self,
+        words: u64,
+        bytes: &[u8],
+        reply_length: usize,
+    ) -> Result<Record, Refusal>
+        ensures { result ≡ admitted words self.now.base self.now.blocks self.now.steps bytes.now reply_length }
+    {
+        if !whole_blocks(words) {
+            return Err(Refusal::CoreNotWholeBlocks);
+        }
+        if !self.is_in_core(words) {
+            return Err(Refusal::PlaceOutsideCore);
+        }
+        if reply_length != REPLY_BYTES {
+            return Err(Refusal::BadRecord);
+        }
+        let bytes = bytes.as_array::<160>().ok_or(Refusal::BadRecord)?;
+        let given = Record::from(read_numbers(bytes));
+        if !given.is_good() {
+            return Err(Refusal::BadRecord);
+        }
+        if !self.has_good_steps() {
+            return Err(Refusal::BadStepsOrSkip);
+        }
+        if given.count + self.steps > given.allowance {
+            return Err(Refusal::AllowanceExceeded);
+        }
+        Ok(given)
     }
-    if !in_core(words, base, blocks) {
-        return Err(Refusal::PlaceOutsideCore);
-    }
-    if bytes.len() != RECORD_BYTES || reply_length != REPLY_BYTES {
-        return Err(Refusal::BadRecord);
-    }
-    let given = read_record(bytes);
-    if !good_record(&given) {
-        return Err(Refusal::BadRecord);
-    }
-    if !good_steps(steps) {
-        return Err(Refusal::BadStepsOrSkip);
-    }
-    if given.count + steps > given.allowance {
-        return Err(Refusal::AllowanceExceeded);
-    }
-    Ok(given)
 }

@@ -1,4 +1,4 @@
-ghost use Rattle.std.specs.Prelude.{◌≡◌, ℕ, ◌*◌, ◌^◌, ◌<◌, length, take, slice_index};
+ghost use Rattle.std.specs.Prelude.{◌≡◌, ◌*◌, length, take};
 ghost use Rattle.machine.specs.Steps.{state, ran, replied, run_of};
 ghost use Rattle.machine.specs.User.{Kept};
 ghost use Rattle.packed.specs.Words.{packed_words};
@@ -7,31 +7,14 @@ use machine::{Place, Reply, run};
 use memory::Core;
 use packed::PackedCore;
 
-/// Steps of a program in a packed core, which stays the core over the same bytes.
-fn run_packed(core: &mut PackedCore, place: &mut Place, most: u64) -> Reply
-    ensures does { ran (state place.new (packed_words core.new.bytes.now)) result.steps result.stop ≡ replied (run_of most (state place.old (packed_words core.old.bytes.now))) }
-    ensures kept { Kept place.old.space (packed_words core.old.bytes.now) place.new.space (packed_words core.new.bytes.now) }
-    ensures lent { core.new.bytes.ghost_name ≡ core.old.bytes.ghost_name }
-{
-    run(core, place, most)
-}
-
-/// Does nothing. A byte is below 256, which is known of a slice where one of its bytes is read.
-fn below_256(bytes: &[u8])
-    ensures { (k : ℕ) → slice_index bytes.now k < 2 ^ 8 }
-{
-    if bytes.len() > 0 {
-        let _ = bytes[0];
-    }
-}
-
-/// Steps of a program in the bytes of a core.
+/// Steps of a program in the bytes of a core. A function of its own, since only its clauses say what the bytes hold once
+/// they are lent to the core no more.
 fn run_in_bytes(bytes: &mut [u8], place: &mut Place, most: u64) -> Reply
     ensures does { ran (state place.new (packed_words bytes.new)) result.steps result.stop ≡ replied (run_of most (state place.old (packed_words bytes.old))) }
     ensures kept { Kept place.old.space (packed_words bytes.old) place.new.space (packed_words bytes.new) }
 {
     let mut core = PackedCore { bytes };
-    run_packed(&mut core, place, most)
+    run(&mut core, place, most)
 }
 
 /// Steps of a program in the bytes of its block. The lowest sixteen words are not the program's, nor are the
@@ -43,8 +26,5 @@ pub(crate) fn run_block(bytes: &mut [u8], place: &mut Place, most: u64) -> Reply
     ensures as_large { place.new.space.blocks ≡ place.old.space.blocks }
     ensures lowest { take 72 bytes.new ≡ take 72 bytes.old }
 {
-    below_256(bytes);
-    let done = run_in_bytes(bytes, place, most);
-    below_256(bytes);
-    done
+    run_in_bytes(bytes, place, most)
 }

@@ -3,22 +3,23 @@ ghost use Rattle.ka10.specs.Numbers.{ReadAsWritten};
 ghost use Rattle.packed.specs.Words.{packed_words};
 ghost use Rattle.std.specs.Prelude.{◌≡◌, length};
 
-use crate::admission::admit;
+use crate::admission::Request;
+use crate::numbers::write_numbers;
 use crate::program::run_in_core;
 use memory::Core;
 use packed::PackedCore;
+use words::Refusal;
 
 /// How many words a packed core has.
 fn word_count(bytes: &mut [u8]) -> u64
     ensures count { result ≡ length (packed_words bytes.old) }
     ensures same { bytes.new ≡ bytes.old }
 {
-    let core = PackedCore { bytes };
-    core.len()
+    PackedCore { bytes }.len()
 }
 
 /// Runs one program by bytes: up to `steps` steps of the program that `record` holds, in its place in the packed
-/// core, with what came of it in `reply`. The result is 0, or the number of the refusal, and then nothing has changed.
+/// core, with what came of it in `reply`. Where it is refused, nothing has changed.
 pub fn ka10_run(
     core: &mut [u8],
     base: u64,
@@ -26,18 +27,20 @@ pub fn ka10_run(
     steps: u64,
     record: &mut [u8],
     reply: &mut [u8],
-) -> u32
+) -> Result<(), Refusal>
     ensures runs { RunsByBytes base blocks steps (lent core.old «record».old reply.old) (lent core.new «record».new reply.new) result }
     ensures read_as_written { ReadAsWritten }
 {
-    let words = word_count(core);
-    match admit(words, base, blocks, steps, record, reply.len()) {
-        Err(refusal) => refusal.number() as u32,
-        Ok(given) => {
-            run_in_core(core, base, blocks, steps, &given, record, reply);
-            0
-        }
-    }
+    let request = Request {
+        base,
+        blocks,
+        steps,
+    };
+    let given = request.admit(word_count(core), record, reply.len())?;
+    let left = run_in_core(core, &request, &given);
+    write_numbers(&<[u64; 20]>::from(left.record), record);
+    write_numbers(&left.reply, reply);
+    Ok(())
 }
 
 #[cfg(test)]
@@ -50,7 +53,10 @@ mod tests {
         let mut core = [7; 9];
         let mut record = [0; 160];
         let mut reply = [9; 24];
-        assert_eq!(rt; ka10_run(&mut core, 0, 0, 0, &mut record, &mut reply), 1);
+        assert_eq!(rt;
+            ka10_run(&mut core, 0, 0, 0, &mut record, &mut reply),
+            Err(Refusal::CoreNotWholeBlocks)
+        );
         assert_eq!(rt; core, [7; 9]);
         assert_eq!(rt; reply, [9; 24]);
     }
@@ -65,9 +71,15 @@ mod tests {
         record[142] = 0x10;
         record[159] = 2;
         let mut reply = [9; 24];
-        assert_eq!(rt; ka10_run(&mut core, 0, 1, 3, &mut record, &mut reply), 12);
+        assert_eq!(rt;
+            ka10_run(&mut core, 0, 1, 3, &mut record, &mut reply),
+            Err(Refusal::AllowanceExceeded)
+        );
         assert_eq!(rt; reply[15], 9);
-        assert_eq!(rt; ka10_run(&mut core, 0, 1, 2, &mut record, &mut reply), 0);
+        assert_eq!(rt;
+            ka10_run(&mut core, 0, 1, 2, &mut record, &mut reply),
+            Ok(())
+        );
         assert_eq!(rt; reply[7], 0);
         assert_eq!(rt; reply[15], 5);
         assert_eq!(rt; record[151], 0);

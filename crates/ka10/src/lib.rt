@@ -7,7 +7,6 @@ mod block;
 mod call;
 mod numbers;
 mod program;
-mod reading;
 mod records;
 
 pub use call::ka10_run;

@@ -1,22 +1,17 @@
-ghost use Rattle.std.specs.Prelude.{◌≡◌, ◌+◌, ◌*◌, ◌≤◌, length, slice_index};
+ghost use Rattle.std.specs.Prelude.{◌≡◌, ◌*◌, length};
 ghost use Rattle.ka10.specs.Numbers.{numbers, encoded, Wide};
 
-/// Number `k` of these bytes.
-pub(crate) fn number_at(bytes: &[u8], k: usize) -> u64
-    requires { 8 * k + 8 ≤ length bytes.now }
-    ensures { result ≡ slice_index (numbers bytes.now) k }
+/// The twenty numbers of a record's bytes, eight for each.
+pub(crate) fn read_numbers(bytes: &[u8; 160]) -> [u64; 20]
+    ensures { result ≡ numbers bytes.now }
 {
-    let p = 8 * k;
-    u64::from_be_bytes([
-        bytes[p],
-        bytes[p + 1],
-        bytes[p + 2],
-        bytes[p + 3],
-        bytes[p + 4],
-        bytes[p + 5],
-        bytes[p + 6],
-        bytes[p + 7],
-    ])
+    let (eights, _) = bytes.as_chunks::<8>();
+    let mut all = [0; 20];
+    // A loop and no `array::from_fn`: its contract does not say that each call reads these same chunks.
+    for (k, number) in all.iter_mut().enumerate() {
+        *number = u64::from_be_bytes(eights[k]);
+    }
+    all
 }
 
 /// Writes numbers into a buffer that has just the room for them.
@@ -25,8 +20,8 @@ pub(crate) fn write_numbers(given: &[u64], bytes: &mut [u8])
     ensures bytes { bytes.new ≡ encoded given.now }
     ensures wide { Wide given.now }
 {
-    for i in 0..given.len() {
-        let eight = given[i].to_be_bytes();
-        bytes[8 * i..8 * i + 8].copy_from_slice(&eight);
+    // By index, since the contract of `as_chunks_mut` does not say what the buffer holds in the end.
+    for (i, n) in given.iter().enumerate() {
+        bytes[8 * i..8 * i + 8].copy_from_slice(&n.to_be_bytes());
     }
 }

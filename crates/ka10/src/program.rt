@@ -1,17 +1,21 @@
 ghost use Rattle.std.specs.Prelude.{◌≡◌, ◌+◌, ◌*◌, ◌^◌, ◌<◌, ◌≤◌, true, length};
-ghost use Rattle.ka10.specs.Calls.{lent, outcome, Done};
+ghost use Rattle.ka10.specs.Calls.{outcome, Ran};
 ghost use Rattle.ka10.specs.Records.{good_record};
 ghost use Rattle.packed.specs.Words.{packed_words};
 
+use crate::admission::Request;
 use crate::block::run_block;
-use crate::numbers::write_numbers;
-use crate::reading::write_record;
 use crate::records::Record;
 use machine::{Place, Space};
 use operations::Status;
+use packed::BLOCK_BYTES;
 
-/// The bytes of a block: 1,024 words, two in nine.
-const BLOCK_BYTES: usize = 4608;
+/// What is to be written of a run: the program's record, and the reply's steps, stop and word.
+#[derive(Clone, Copy, PartialEq, Eq, Debug)]
+pub struct Left {
+    pub record: Record,
+    pub reply: [u64; 3],
+}
 
 /// The record of a program that has done so many steps more and has these accumulators and this status then.
 fn record_after(given: &Record, space: &Space, status: Status, done: u64) -> Record
@@ -30,18 +34,10 @@ fn record_after(given: &Record, space: &Space, status: Status, done: u64) -> Rec
 
 /// Makes a run in the bytes of the program's block, which is a core of its own with the program from its start
 /// on. So nothing outside the block can change.
-fn run_program(
-    block: &mut [u8],
-    blocks: u64,
-    steps: u64,
-    given: &Record,
-    bytes: &mut [u8],
-    reply: &mut [u8],
-)
+fn run_program(block: &mut [u8], blocks: u64, steps: u64, given: &Record) -> Left
     requires block { (length block.old ≡ 4608 * blocks) × ((1 ≤ blocks) × (blocks ≤ 256)) }
     requires call { (good_record given.now ≡ true) × (steps ≤ 1000000) }
-    requires lengths { (length bytes.old ≡ 160) × (length reply.old ≡ 24) }
-    ensures { Done 0 blocks given.now (outcome given.now 0 blocks steps block.old) (lent block.old bytes.old reply.old) (lent block.new bytes.new reply.new) }
+    ensures { Ran 0 blocks given.now (outcome given.now 0 blocks steps block.old) block.old block.new result.«record» result.reply }
 {
     let mut place = Place {
         space: Space {
@@ -55,27 +51,20 @@ fn run_program(
         },
     };
     let done = run_block(block, &mut place, steps);
-    let after = record_after(given, &place.space, place.status, done.steps);
-    write_record(&after, bytes);
-    write_numbers(&[done.steps, done.stop.number(), done.stop.word()], reply);
+    Left {
+        record: record_after(given, &place.space, place.status, done.steps),
+        reply: [done.steps, done.stop.number(), done.stop.word()],
+    }
 }
 
 /// Makes a run in a packed core that has the program's block.
-pub(crate) fn run_in_core(
-    core: &mut [u8],
-    base: u64,
-    blocks: u64,
-    steps: u64,
-    given: &Record,
-    bytes: &mut [u8],
-    reply: &mut [u8],
-)
-    requires block { (1 ≤ blocks) × (1024 * (base + blocks) ≤ length (packed_words core.old)) }
-    requires call { (good_record given.now ≡ true) × (steps ≤ 1000000) }
-    requires lengths { (length bytes.old ≡ 160) × (length reply.old ≡ 24) }
-    ensures { Done base blocks given.now (outcome given.now base blocks steps core.old) (lent core.old bytes.old reply.old) (lent core.new bytes.new reply.new) }
+pub(crate) fn run_in_core(core: &mut [u8], request: &Request, given: &Record) -> Left
+    requires block { (1 ≤ request.now.blocks) × (1024 * (request.now.base + request.now.blocks) ≤ length (packed_words core.old)) }
+    requires call { (good_record given.now ≡ true) × (request.now.steps ≤ 1000000) }
+    ensures { Ran request.now.base request.now.blocks given.now
+        (outcome given.now request.now.base request.now.blocks request.now.steps core.old) core.old core.new result.«record» result.reply }
 {
-    let start = BLOCK_BYTES * base as usize;
-    let end = start + BLOCK_BYTES * blocks as usize;
-    run_program(&mut core[start..end], blocks, steps, given, bytes, reply);
+    let start = BLOCK_BYTES * request.base as usize;
+    let end = start + BLOCK_BYTES * request.blocks as usize;
+    run_program(&mut core[start..end], request.blocks, request.steps, given)
 }

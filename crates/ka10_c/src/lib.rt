@@ -2,7 +2,7 @@
 
 #![tactic(auto)]
 
-ghost use Rattle.ka10.specs.Calls.{lent, RunsByBytes};
+ghost use Rattle.ka10.specs.Calls.{lent, RunsByNumber};
 ghost use Rattle.ka10.specs.Numbers.{ReadAsWritten};
 
 /// Runs one program by bytes: up to `steps` steps of the program that `record` holds, in its place in the packed
@@ -16,8 +16,11 @@ pub extern "C" fn ka10_run(
     record: &mut [u8],
     reply: &mut [u8],
 ) -> u32
-    ensures runs { RunsByBytes base blocks steps (lent core.old «record».old reply.old) (lent core.new «record».new reply.new) result }
+    ensures runs { RunsByNumber base blocks steps (lent core.old «record».old reply.old) (lent core.new «record».new reply.new) result }
     ensures read_as_written { ReadAsWritten }
 {
-    ka10::ka10_run(core, base, blocks, steps, record, reply)
+    match ka10::ka10_run(core, base, blocks, steps, record, reply) {
+        Ok(()) => 0,
+        Err(refusal) => u64::from(refusal) as u32,
+    }
 }

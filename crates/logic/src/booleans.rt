@@ -4,11 +4,15 @@ ghost use Rattle.std.specs.Prelude.{◌≡◌, ◌^◌, ◌<◌};
 ghost use Rattle.words.specs.Bits.{complement};
 ghost use Rattle.logic.specs.Boolean.{ByTable, boolean_of};
 
-use words::WORD_LIMIT;
+use words::{WORD_LIMIT, complement};
 
 /// The Boolean function of the operand and the accumulator that `table` names by its truth table: of the table's four
 /// bits the highest is the result where both bits are 0, the next where only the accumulator's is 1, then where only
 /// the operand's is, and the lowest where both are.
+///
+/// The table is a number, since its bits are the answers, and of any number the low four are taken: an enum of sixteen
+/// names would ask callers for more.
+#[tactic(auto, using(crate::proofs::BooleanLaws::boolean_laws), unfolding(crate::specs::Boolean::boolean_of))]
 pub fn boolean(table: u64, operand: u64, ac: u64) -> u64
     ensures value { result ≡ boolean_of table operand ac }
     ensures narrow { result < 2 ^ 36 }
@@ -36,11 +40,4 @@ pub fn boolean(table: u64, operand: u64, ac: u64) -> u64
         14 => not_a | not_m,
         _ => WORD_LIMIT - 1,
     }
-}
-
-/// The other of each of the low 36 bits.
-pub(crate) fn complement(w: u64) -> u64
-    ensures { result ≡ complement w }
-{
-    WORD_LIMIT - 1 - w % WORD_LIMIT
 }

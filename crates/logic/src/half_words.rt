@@ -3,7 +3,8 @@
 ghost use Rattle.std.specs.Prelude.{◌≡◌, ◌^◌, ◌<◌};
 ghost use Rattle.logic.specs.HalfMoves.{Moves, half, half_move_of, moved_half, opposite, rest};
 
-use crate::halves::{HALF_LIMIT, from_halves, left, right};
+use crate::halves::{from_halves, left, right};
+use words::HALF_LIMIT;
 
 /// A half of a word.
 #[derive(Clone, Copy, PartialEq, Eq, Debug)]
@@ -60,27 +61,31 @@ pub struct HalfMove {
 }
 
 /// The move that an instruction's code names, of the codes 0o500 to 0o577.
-pub fn half_move_of(code: u64) -> HalfMove
-    ensures { result ≡ half_move_of code }
-{
-    let to = match code / 32 % 2 {
-        0 => Half::Left,
-        _ => Half::Right,
-    };
-    let from = match code / 4 % 2 {
-        0 => to,
-        _ => to.opposite(),
-    };
-    let other = match code / 8 % 4 {
-        0 => Other::Kept,
-        1 => Other::Zeros,
-        2 => Other::Ones,
-        _ => Other::Extended,
-    };
-    HalfMove { from, to, other }
+impl From<u64> for HalfMove {
+    ghost from_gives = { λ code kind. kind ≡ half_move_of code };
+
+    #[tactic(auto, unfolding(crate::specs::HalfMoves::half_move_of))]
+    fn from(code: u64) -> HalfMove {
+        let to = match code / 32 % 2 {
+            0 => Half::Left,
+            _ => Half::Right,
+        };
+        let from = match code / 4 % 2 {
+            0 => to,
+            _ => to.opposite(),
+        };
+        let other = match code / 8 % 4 {
+            0 => Other::Kept,
+            1 => Other::Zeros,
+            2 => Other::Ones,
+            _ => Other::Extended,
+        };
+        HalfMove { from, to, other }
+    }
 }
 
 /// The destination after a half of the source is moved to it.
+#[tactic(auto, unfolding(crate::specs::HalfMoves::moved_half))]
 pub fn move_half(kind: HalfMove, source: u64, destination: u64) -> u64
     ensures value { result ≡ moved_half kind source destination }
     ensures narrow { result < 2 ^ 36 }

@@ -3,8 +3,7 @@
 ghost use Rattle.std.specs.Prelude.{◌≡◌, ◌^◌, ◌<◌};
 ghost use Rattle.logic.specs.Halves.{Consists, Exchanged, halves, left, right, swapped};
 
-/// One more than the greatest half.
-pub(crate) const HALF_LIMIT: u64 = 1 << 18;
+use words::HALF_LIMIT;
 
 /// The high 18 bits of a word.
 pub fn left(w: u64) -> u64

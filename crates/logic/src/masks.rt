@@ -3,8 +3,7 @@
 ghost use Rattle.std.specs.Prelude.{◌≡◌, ◌^◌, ◌<◌, Decides};
 ghost use Rattle.logic.specs.Masks.{Changes, Skips, change_of, changed_by, skip_when_of, skips_when};
 
-use crate::booleans::complement;
-use words::WORD_LIMIT;
+use words::{WORD_LIMIT, complement};
 
 /// What becomes of the masked bits of the accumulator.
 #[derive(Clone, Copy, PartialEq, Eq, Debug)]
@@ -33,30 +32,37 @@ pub enum SkipWhen {
 }
 
 /// The change that an instruction's code names, of the codes 0o600 to 0o677.
-pub fn change_of(code: u64) -> Change
-    ensures { result ≡ change_of code }
-{
-    match code / 16 % 4 {
-        0 => Change::Unchanged,
-        1 => Change::Zeros,
-        2 => Change::Complement,
-        _ => Change::Ones,
+impl From<u64> for Change {
+    ghost from_gives = { λ code change. change ≡ change_of code };
+
+    #[tactic(auto, unfolding(crate::specs::Masks::change_of))]
+    fn from(code: u64) -> Change {
+        match code / 16 % 4 {
+            0 => Change::Unchanged,
+            1 => Change::Zeros,
+            2 => Change::Complement,
+            _ => Change::Ones,
+        }
     }
 }
 
 /// The test that an instruction's code names, of the codes 0o600 to 0o677.
-pub fn skip_when_of(code: u64) -> SkipWhen
-    ensures { result ≡ skip_when_of code }
-{
-    match code / 2 % 4 {
-        0 => SkipWhen::Never,
-        1 => SkipWhen::AllMaskedEqualZero,
-        2 => SkipWhen::Always,
-        _ => SkipWhen::NotAllMaskedEqualZero,
+impl From<u64> for SkipWhen {
+    ghost from_gives = { λ code when. when ≡ skip_when_of code };
+
+    #[tactic(auto, unfolding(crate::specs::Masks::skip_when_of))]
+    fn from(code: u64) -> SkipWhen {
+        match code / 2 % 4 {
+            0 => SkipWhen::Never,
+            1 => SkipWhen::AllMaskedEqualZero,
+            2 => SkipWhen::Always,
+            _ => SkipWhen::NotAllMaskedEqualZero,
+        }
     }
 }
 
 /// The accumulator with its masked bits changed.
+#[tactic(auto, using(crate::proofs::BitLaws::words_below), unfolding(crate::specs::Masks::changed_by))]
 pub fn changed(change: Change, ac: u64, mask: u64) -> u64
     ensures value { result ≡ changed_by change ac mask }
     ensures narrow { result < 2 ^ 36 }
@@ -72,6 +78,7 @@ pub fn changed(change: Change, ac: u64, mask: u64) -> u64
 }
 
 /// Whether the next instruction is skipped, where `ac` is the accumulator before any change.
+#[tactic(auto, using(crate::proofs::MaskLaws::skip_law), unfolding(crate::specs::Masks::skips_when))]
 pub fn skips(when: SkipWhen, ac: u64, mask: u64) -> bool
     ensures value { result ≡ skips_when when ac mask }
     ensures decides { Decides result (Skips when ac mask) }

@@ -14,17 +14,17 @@ fn a_table_gives_the_bits_of_its_number(rt: HostRuntime) {
 #[test]
 fn a_negative_half_is_extended(rt: HostRuntime) {
     assert_eq!(rt;
-        move_half(half_move_of(0o570), 0o400000, 5),
+        move_half(HalfMove::from(0o570), 0o400000, 5),
         0o777777_400000
     );
     assert_eq!(rt;
-        move_half(half_move_of(0o504), 0o123456, 5),
+        move_half(HalfMove::from(0o504), 0o123456, 5),
         0o123456_000005
     );
 }
 
 #[test]
 fn masked_bits_are_cleared_after_the_test(rt: HostRuntime) {
-    assert!(rt; skips(skip_when_of(0o626), 0b0110, 0b0011));
-    assert_eq!(rt; changed(change_of(0o626), 0b0110, 0b0011), 0b0100);
+    assert!(rt; skips(SkipWhen::from(0o626), 0b0110, 0b0011));
+    assert_eq!(rt; changed(Change::from(0o626), 0b0110, 0b0011), 0b0100);
 }

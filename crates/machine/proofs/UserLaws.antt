@@ -1,10 +1,10 @@
 -- The laws of the user words at a read and at a write.
-use Rattle.std.proofs.Common.{◌≡◌, ℕ, ◌+◌, ◌-◌, ◌*◌, ◌^◌, ◌<◌, ◌≤◌, min, List, ◌++◌, length, get_or, take, drop, set, sym, ap, ◌∙◌, ⊎_elim, arith}
+use Rattle.std.proofs.Common.{◌≡◌, ℕ, ◌+◌, ◌-◌, ◌*◌, ◌<◌, ◌≤◌, min, List, length, get_or, set, sym, arith}
+use Rattle.std.proofs.lemmas.Bool.Decides.{nat_tests}
+use Rattle.std.proofs.lemmas.Grind.{common_steps}
 use lib.Seq.{take-set-lt}
-use Rattle.std.proofs.lemmas.List.{length-append, length-take, length-drop, get_or_append_left, get_or-append_right, get_or-take, get_or-drop, set-append_left, set-append_right, set_past, drop-set-add, get_or-set_same, get_or-set_other}
-use Rattle.std.proofs.lemmas.Bool.{cases_eq, cases_lt}
+use Rattle.std.proofs.lemmas.List.{length-append, length-take, length-drop, get_or_append_left, get_or-append_right, set-append_left, set-append_right, drop-set-add}
 use Rattle.machine.specs.User.{user_of}
-use Rattle.words.specs.Word.{Narrow}
 
 module _ (accs : List ℕ) (base blocks : ℕ) (ws : List ℕ) (sixteen : length accs ≡ 16) where
   pub user-length : length (user_of accs base blocks ws) ≡ 16 + min (1024 * blocks - 16) (length ws - (1024 * base + 16))
@@ -19,7 +19,7 @@ module _ (accs : List ℕ) (base blocks : ℕ) (ws : List ℕ) (sixteen : length
   unfolding user_of
   user-high a l h =
       let e : (1024 * base + 16) + (a - 16) ≡ 1024 * base + a = omega arith in
-      get_or-append_right accs _ 16 a 0 sixteen l ∙ get_or-take (1024 * blocks - 16) _ (a - 16) 0 (omega arith) ∙ get_or-drop _ ws (a - 16) 0 ∙ ap (λ i. get_or ws i 0) e
+      grind (arith, common_steps, get_or-append_right)
 
   pub set-low : (a w : ℕ) → a < 16 → user_of (set accs a w) base blocks ws ≡ set (user_of accs base blocks ws) a w
   unfolding user_of
@@ -29,19 +29,8 @@ module _ (accs : List ℕ) (base blocks : ℕ) (ws : List ℕ) (sixteen : length
   unfolding user_of
   set-high a w l h =
       let e : 1024 * base + a ≡ (1024 * base + 16) + (a - 16) = omega arith in
-      let n = 1024 * blocks - 16 in
-      let m = 1024 * base + 16 in
-      ap (λ i. accs ++ take n (drop m (set ws i w))) e
-      ∙ ap (λ t. accs ++ take n t) (drop-set-add m ws (a - 16) w)
-      ∙ ap (λ t. accs ++ t) (take-set-lt n (drop m ws) (a - 16) w (omega arith))
-      ∙ sym (set-append_right accs _ 16 a w sixteen l)
+      let inside : a - 16 < 1024 * blocks - 16 = omega arith in
+      rw (e, drop-set-add, take-set-lt, set-append_right accs _ 16 a w sixteen l)
 
-  pub set_out : (a w : ℕ) → length (user_of accs base blocks ws) ≤ a → set (user_of accs base blocks ws) a w ≡ user_of accs base blocks ws
-  set_out a w h = set_past _ a w h
-
-pub narrow-set : (xs : List ℕ) (i w : ℕ) → w < 2 ^ 36 → Narrow xs → Narrow (set xs i w)
-narrow-set xs i w h f k =
-    ⊎_elim
-    (λ (e : k ≡ i). ⊎_elim (λ (l : i < length xs). omega (arith, get_or-set_same xs i w 0 l, ap (λ j. get_or (set xs i w) j 0) e)) (λ (l : length xs ≤ i). omega (arith, ap (λ ys. get_or ys k 0) (set_past xs i w l), f k)) (cases_lt i (length xs)))
-    (λ ne. omega (arith, get_or-set_other xs i k w 0 ne, f k))
-    (cases_eq k i)
+-- for `grind`
+pub ruleset user_laws = (common_steps, nat_tests, user-length, user-low, user-high, set-low, set-high)

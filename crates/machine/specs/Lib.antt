@@ -1,4 +1,5 @@
 pub mod User
+pub mod Machine
 pub mod Endings
 pub mod Address
 pub mod Transfer

@@ -1,24 +1,13 @@
 -- A step, and a run of steps.
-use Rattle.std.specs.Prelude.{◌≡◌, ℕ, zero, suc, ◌+◌, ◌%◌, ◌^◌, cond, List, Some, None, Ok, Err, Option, Result}
+use Rattle.std.specs.Prelude.{◌≡◌, ℕ, zero, suc, ◌+◌, ◌%◌, ◌^◌, cond, Some, None, Ok, Err, Option, Result}
 use Rattle.operations.specs.declared.effect.Status.{Status}
 use Rattle.machine.specs.Endings.{Ended}
 use Rattle.machine.specs.Execution.{executed}
-use Rattle.machine.specs.User.{user, fetched}
-use Rattle.machine.specs.declared.place.Place.{Place}
+use Rattle.machine.specs.User.{fetched}
+pub use Rattle.machine.specs.Machine.{Machine, machine, state}
 use Rattle.stops.specs.Stops.{step_counts}
 use Rattle.stops.specs.declared.stop.Stop.{Stop}
 use Rattle.stops.specs.declared.stop.Stop.TheVariants.{StepsDone}
-
-pub record Machine : Type 0 where
-  pub user : List ℕ
-  pub status : Status
-
-abbrev pub machine : List ℕ → Status → Machine
-machine u s = record { user = u; status = s }
-
--- the machine that a place and the core's words stand for
-abbrev pub state : Place → List ℕ → Machine
-state p ws = machine (user p.space ws) p.status
 
 -- a step: the machine after it, and a stop if it made one
 pub record Stepped : Type 0 where
@@ -29,18 +18,18 @@ abbrev pub stepped : Machine → Option Stop → Stepped
 stepped m t = record { after = m; stop = t }
 
 -- after a fault PC and flags are as before the step; the words that were written stand
-abbrev pub settled_by : Result (Option Stop) Stop → List ℕ → Status → Status → Stepped
-settled_by (Ok t) u before after = stepped (machine u after) t
-settled_by (Err t) u before after = stepped (machine u before) (Some t)
+abbrev pub settled_by : Result (Option Stop) Stop → Machine → Status → Stepped
+settled_by (Ok t) m before = stepped m t
+settled_by (Err t) m before = stepped (machine m.user before) (Some t)
 
 abbrev pub settled : Status → Ended (Option Stop) → Stepped
-settled before x = settled_by x.answer x.user before x.status
+settled before x = settled_by x.answer x.after before
 
 abbrev pub advanced : Status → Status
 advanced s = record { pc = (s.pc + 1) % 2 ^ 18; flags = s.flags }
 
 abbrev pub stepped_from : Result ℕ Stop → Machine → Stepped
-stepped_from (Ok w) m = settled m.status (executed 63 m.user (advanced m.status) w)
+stepped_from (Ok w) m = settled m.status (executed 63 (machine m.user (advanced m.status)) w)
 stepped_from (Err t) m = stepped m (Some t)
 
 -- the step rule: the word at PC is fetched, PC grows by 1, and the word is executed

@@ -19,6 +19,27 @@ fetched u a = cond (nat_lt a (length u)) (Ok (slice_index u a)) (Err (IllegalAdd
 abbrev pub stored : List ℕ → ℕ → Result (Unit {0}) Stop
 stored u a = cond (nat_lt a (length u)) (Ok tt) (Err (IllegalAddress a))
 
+-- what no program changes: where its block lies, each word of the core that is not the program's, and what else the core
+-- stands on
+pub record Outside (R : Type 0) : Type 0 where
+  pub base : ℕ
+  pub blocks : ℕ
+  pub count : ℕ
+  pub below : List ℕ
+  pub above : List ℕ
+  pub rest : R
+
+abbrev pub outside : {R : Type 0} → Space → List ℕ → R → Outside R
+outside p ws r =
+    record {
+      base = p.base;
+      blocks = p.blocks;
+      count = length ws;
+      below = take (1024 * p.base + 16) ws;
+      above = drop (1024 * (p.base + p.blocks)) ws;
+      rest = r;
+    }
+
 -- what no program changes: where its block lies, and each word of the core that is not the program's
 pub record Kept (p : Space) (ws : List ℕ) (q : Space) (vs : List ℕ) : Type 0 where
   pub base : q.base ≡ p.base

@@ -4,6 +4,7 @@
 
 mod address;
 mod execute;
+mod located;
 mod next;
 mod perform;
 mod place;

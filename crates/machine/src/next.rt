@@ -1,7 +1,8 @@
 use stops::Stop;
 
 /// What an executed word comes to.
-#[derive(Clone, Copy)]
+// An enum of its own and no `ControlFlow`: `Break` and `Continue` would not say what a word ends with or goes on to.
+#[derive(Clone, Copy, PartialEq, Eq, Debug)]
 pub enum Next {
     /// It is done, perhaps with a stop.
     Done(Option<Stop>),

@@ -1,22 +1,20 @@
-ghost use Rattle.std.specs.Prelude.{◌≡◌, ℕ, ◌^◌, ◌<◌};
-ghost use Rattle.operations.specs.Fields.{accumulator};
-ghost use Rattle.operations.specs.declared.effect.Status.{Status};
+ghost use Rattle.std.specs.Prelude.{◌≡◌, ◌^◌, ◌<◌};
 ghost use Rattle.operations.specs.declared.operation.Instruction.TheVariants.{UserCall, BlockTransfer};
 ghost use Rattle.machine.specs.Endings.{ended};
 ghost use Rattle.machine.specs.Execution.{call_word, carried_out};
-ghost use Rattle.machine.specs.Transfer.{words_moved};
-ghost use Rattle.machine.specs.User.{user, Kept};
+ghost use Rattle.machine.specs.Machine.{state};
+ghost use Rattle.machine.specs.User.{outside};
 
-use crate::address::Located;
+use crate::located::Located;
 use crate::next::Next;
+use crate::place::Place;
 use crate::reference::write;
-use crate::space::Space;
 use crate::transfer::transfer;
+use logic::{left, right};
 use memory::Core;
 use operations::accumulator;
 use stops::Stop;
-
-const HALF: u64 = 1 << 18;
+use words::HALF_LIMIT;
 
 /// Where a call of the user's own is stored; the word after it is executed.
 const CALL_AT: u64 = 0o40;
@@ -26,52 +24,43 @@ pub(crate) fn call_word(word: u64, e: u64) -> u64
     ensures value { result ≡ call_word word e }
     ensures narrow { result < 2 ^ 36 }
 {
-    (word >> 23) % (1 << 13) * (1 << 23) + e % HALF
-}
-
-/// How many words a block transfer moves: up to the one that goes to `e`, and one at least.
-fn words_moved(to: u64, e: u64) -> u64
-    requires { e < 2 ^ 18 }
-    ensures { result ≡ words_moved to e }
-{
-    if to < e { e - to + 1 } else { 1 }
+    (word >> 23) % (1 << 13) * (1 << 23) + e % HALF_LIMIT
 }
 
 /// A call of the user's own, codes 001 to 037: it is stored, and the word after it follows.
+#[tactic(auto, unfolding(crate::specs::Execution::carried_out))]
 pub(crate) fn user_call<C: Core>(
     core: &mut C,
-    space: &mut Space,
+    place: &mut Place,
     word: u64,
     at: Located,
 ) -> Result<Next, Stop>
-    ensures does { (s : Status) → ended (user space.new (C.words core.new)) s result ≡ carried_out UserCall (user space.old (C.words core.old)) s word at }
-    ensures kept { Kept space.old (C.words core.old) space.new (C.words core.new) }
-    ensures rest { C.rest core.new ≡ C.rest core.old }
+    ensures does { ended (state place.new (C.words core.new)) result
+        ≡ carried_out UserCall (state place.old (C.words core.old)) word at }
+    ensures keeps { outside place.new.space (C.words core.new) (C.rest core.new)
+        ≡ outside place.old.space (C.words core.old) (C.rest core.old) }
 {
-    write(core, space, CALL_AT, call_word(word, at.address))?;
+    write(core, &mut place.space, CALL_AT, call_word(word, at.address))?;
     Ok(Next::At(CALL_AT + 1))
 }
 
 /// BLT: moves words from the address in the accumulator's left half on to that in its right half on.
+#[tactic(auto, using(crate::proofs::UserLaws::user_laws), unfolding(crate::specs::Execution::carried_out))]
 pub(crate) fn block_transfer<C: Core>(
     core: &mut C,
-    space: &mut Space,
+    place: &mut Place,
     word: u64,
     at: Located,
 ) -> Result<Next, Stop>
-    requires { at.address < 2 ^ 18 }
-    ensures does { (s : Status) → ended (user space.new (C.words core.new)) s result ≡ carried_out BlockTransfer (user space.old (C.words core.old)) s word at }
-    ensures kept { Kept space.old (C.words core.old) space.new (C.words core.new) }
-    ensures rest { C.rest core.new ≡ C.rest core.old }
+    ensures does { ended (state place.new (C.words core.new)) result
+        ≡ carried_out BlockTransfer (state place.old (C.words core.old)) word at }
+    ensures keeps { outside place.new.space (C.words core.new) (C.rest core.new)
+        ≡ outside place.old.space (C.words core.old) (C.rest core.old) }
 {
-    let ac = space.accumulators[accumulator(word) as usize];
-    let to = ac % HALF;
-    transfer(
-        core,
-        space,
-        words_moved(to, at.address),
-        (ac >> 18) % HALF,
-        to,
-    )?;
+    let ac = place.space.accumulators[accumulator(word) as usize];
+    let to = right(ac);
+    // Up to the word that goes to E, and one at least.
+    let count = at.address.saturating_sub(to) + 1;
+    transfer(core, place, count, left(ac), to)?;
     Ok(Next::Done(None))
 }

@@ -8,6 +8,12 @@ abbrev pub Reads : List ℕ → ℕ → Result ℕ Refusal → Type 0
 Reads ws a (Ok w) = (a < length ws) × (w ≡ slice_index ws a)
 Reads ws a (Err e) = (length ws ≤ a) × (number_of e ≡ 13)
 
+-- the tests before a write of w at a: it is refused with 10 exactly when w is no word, else with 13 exactly when there is
+-- no word at a
+abbrev pub ChecksWrite : List ℕ → ℕ → ℕ → Result (Unit {0}) Refusal → Type 0
+ChecksWrite ws a w (Ok u) = (w < 2 ^ 36) × (a < length ws)
+ChecksWrite ws a w (Err e) = (2 ^ 36 ≤ w → number_of e ≡ 10) × (w < 2 ^ 36 → (length ws ≤ a) × (number_of e ≡ 13))
+
 -- a write of w at a, after which the words are vs: w is there and all else is as it was.
 -- Refused, nothing changes: with 10 exactly when w is no word, else with 13 exactly when there is no word at a
 abbrev pub Writes : List ℕ → ℕ → ℕ → List ℕ → Result (Unit {0}) Refusal → Type 0

@@ -1,6 +1,6 @@
 -- The words of a plain core: the low 36 bits of each number.
 use Rattle.std.specs.Prelude.{◌≡◌, ℕ, ◌%◌, ◌^◌, ◌<◌, List, map, length, set, slice_index, slice_set}
-use Rattle.memory.specs.Cut.{cut, over, narrow_cut}
+use Rattle.memory.specs.Cut.{cut, over, narrow_cut, cuts}
 use Rattle.std.proofs.lemmas.List.{length-map, get_or-map, map-set}
 use Rattle.words.specs.Word.{Narrow, narrow_within}
 use Rattle.std.specs.Borrow.{GName, MutBor}
@@ -31,3 +31,5 @@ set-lows xs i w k = map-set (λ x. x % 2 ^ 36) xs i w ∙ ap (set (map (λ x. x 
 
 pub narrow-lows : (xs : List ℕ) → Narrow (plain_words xs)
 narrow-lows xs = narrow_cut (lows xs) (narrow_within (lows xs) (λ a l. omega (arith, get_or-lows xs a (omega (arith, length-lows xs)))))
+
+pub ruleset plains = (cuts, length-lows, get_or-lows, set-lows)

@@ -1,13 +1,19 @@
 ghost use Rattle.std.specs.Prelude.{◌≡◌, ℕ, ◌≤◌, List, length};
-ghost use Rattle.memory.specs.Access.{Reads, Writes};
+ghost use Rattle.memory.specs.Access.{Reads, ChecksWrite, Writes};
 ghost use Rattle.words.specs.Word.{Narrow};
 
-use words::Refusal;
+use words::{HALF_LIMIT, Refusal, WORD_LIMIT};
 
-/// No core has an address from here on.
-pub const CORE_LIMIT: u64 = 262144;
+/// No core has an address from here on: an address is a half of a word.
+pub const CORE_LIMIT: u64 = HALF_LIMIT;
+
+/// A block, by which places lie in a core, has this many words.
+pub const BLOCK_WORDS: u64 = 1024;
 
 /// A memory of 36-bit words. Its meaning is a list of words, by address, whose length never changes.
+///
+/// The cores over lent numbers and over lent bytes are no one generic type: they differ in how a word lies in what is
+/// lent, and their bodies say little else.
 pub trait Core {
     /// The words, by address.
     ghost words: { Self → List ℕ };
@@ -30,6 +36,20 @@ pub trait Core {
     /// The word at `a`.
     fn read(&self, a: u64) -> Result<u64, Refusal>
         ensures { Reads (words self.now) a result };
+
+    /// Refuses what no core writes: a number that is no word, and then any word at an address that is not there. Every
+    /// core's `write` begins with it.
+    fn check_write(&self, a: u64, w: u64) -> Result<(), Refusal>
+        ensures { ChecksWrite (words self.now) a w result }
+    {
+        if w >= WORD_LIMIT {
+            return Err(Refusal::NotAWord);
+        }
+        if a >= self.len() {
+            return Err(Refusal::AddressOutsideCore);
+        }
+        Ok(())
+    }
 
     /// Puts the word `w` at `a`.
     fn write(&mut self, a: u64, w: u64) -> Result<(), Refusal>

@@ -6,5 +6,5 @@
 mod core_trait;
 mod plain;
 
-pub use core_trait::{CORE_LIMIT, Core};
+pub use core_trait::{BLOCK_WORDS, CORE_LIMIT, Core};
 pub use plain::PlainCore;

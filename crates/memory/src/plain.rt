@@ -23,6 +23,7 @@ impl<'a> PlainCore<'a> {
     }
 }
 
+#[tactic(auto, using(crate::specs::Plain::plains))]
 impl<'a> Core for PlainCore<'a> {
     ghost words = { λ c. plain_words c.cells.now };
 
@@ -35,30 +36,24 @@ impl<'a> Core for PlainCore<'a> {
     ghost narrow = { λ c. narrow-lows c.cells.now };
 
     fn len(&self) -> u64 {
-        let n = self.cells.len() as u64;
-        if n < CORE_LIMIT { n } else { CORE_LIMIT }
+        (self.cells.len() as u64).min(CORE_LIMIT)
     }
 
     fn read(&self, a: u64) -> Result<u64, Refusal> {
-        if a < self.len() {
-            Ok(self.cells[a as usize] % WORD_LIMIT)
-        } else {
-            Err(Refusal::AddressOutsideCore)
+        if a >= self.len() {
+            return Err(Refusal::AddressOutsideCore);
         }
+        Ok(self.cells[a as usize] % WORD_LIMIT)
     }
 
     /// The lent numbers after it: one is now exactly the word, and the others are as they were.
     fn write(&mut self, a: u64, w: u64) -> Result<(), Refusal>
         ensures does { Writes (plain_words self.old.cells.now) a w (plain_words self.new.cells.now) result }
         ensures keeps { plain_rest self.new.cells ≡ plain_rest self.old.cells }
-        ensures cells { self.new.cells.now ≡ (if is_ok result then slice_set self.old.cells.now a w else self.old.cells.now) }
+        ensures cells { self.new.cells.now
+            ≡ (if is_ok result then slice_set self.old.cells.now a w else self.old.cells.now) }
     {
-        if w >= WORD_LIMIT {
-            return Err(Refusal::NotAWord);
-        }
-        if a >= self.len() {
-            return Err(Refusal::AddressOutsideCore);
-        }
+        self.check_write(a, w)?;
         self.cells[a as usize] = w;
         Ok(())
     }

@@ -1,15 +1,20 @@
 //! Which instruction a word is, by the octal digits of its code.
+//!
+//! Below `decode`, each function reads one range of codes, and several give the same type. They have names of their own,
+//! since a type has only one `From<u64>`.
 
 ghost use Rattle.operations.specs.Decode.{decoded, call_of, comparison_of, exchange_of, full_word_of, jrst_of, move_of, shift_of, stack_of};
 ghost use Rattle.std.specs.Prelude.{◌≡◌};
 
 use crate::fields::{accumulator, opcode};
-use crate::modes::{form_of, mask_from_of, mode_of, move_mode_of};
-use crate::operation::{Instruction, Operation, Shift};
-use arithmetic::condition_of;
-use logic::{change_of, half_move_of, skip_when_of};
+use crate::operation::{Form, Instruction, MaskFrom, Mode, MoveMode, Operation, Shift};
+use arithmetic::Condition;
+use logic::{Change, HalfMove, SkipWhen};
 
 /// The instruction that a word is. Its code alone decides, and for JRST the accumulator field too.
+///
+/// It is no `From<u64>`, since the conversions from a number take a code, and this takes a whole word.
+#[tactic(auto, unfolding(crate::specs::Decode::decoded))]
 pub fn decode(word: u64) -> Instruction
     ensures { result ≡ decoded word }
 {
@@ -19,12 +24,12 @@ pub fn decode(word: u64) -> Instruction
         1 => Instruction::Ordinary(Operation::NotInstalled),
         2 => full_word_of(code, accumulator(word)),
         3 => Instruction::Ordinary(comparison_of(code)),
-        4 => Instruction::Ordinary(Operation::Boolean(code / 4 % 16, mode_of(code))),
-        5 => Instruction::Ordinary(Operation::HalfWord(half_move_of(code), move_mode_of(code))),
+        4 => Instruction::Ordinary(Operation::Boolean(code / 4 % 16, Mode::from(code))),
+        5 => Instruction::Ordinary(Operation::HalfWord(HalfMove::from(code), MoveMode::from(code))),
         6 => Instruction::Ordinary(Operation::Test(
-            mask_from_of(code),
-            change_of(code),
-            skip_when_of(code),
+            MaskFrom::from(code),
+            Change::from(code),
+            SkipWhen::from(code),
         )),
         _ => Instruction::Ordinary(Operation::MonitorCall),
     }
@@ -52,15 +57,15 @@ fn full_word_of(code: u64, field: u64) -> Instruction
         0 | 1 => Instruction::Ordinary(move_of(code)),
         2 => Instruction::Ordinary(Operation::NotInstalled),
         3 => match code / 4 % 2 {
-            0 => Instruction::Ordinary(Operation::Idiv(mode_of(code))),
+            0 => Instruction::Ordinary(Operation::Idiv(Mode::from(code))),
             _ => Instruction::Ordinary(Operation::NotInstalled),
         },
         4 => Instruction::Ordinary(shift_of(code)),
         5 => exchange_of(code, field),
         6 => Instruction::Ordinary(stack_of(code)),
         _ => match code / 4 % 2 {
-            0 => Instruction::Ordinary(Operation::Add(mode_of(code))),
-            _ => Instruction::Ordinary(Operation::Sub(mode_of(code))),
+            0 => Instruction::Ordinary(Operation::Add(Mode::from(code))),
+            _ => Instruction::Ordinary(Operation::Sub(Mode::from(code))),
         },
     }
 }
@@ -69,7 +74,7 @@ fn full_word_of(code: u64, field: u64) -> Instruction
 fn move_of(code: u64) -> Operation
     ensures { result ≡ move_of code }
 {
-    Operation::Move(form_of(code), move_mode_of(code))
+    Operation::Move(Form::from(code), MoveMode::from(code))
 }
 
 /// Codes 240 to 247.
@@ -134,7 +139,7 @@ fn stack_of(code: u64) -> Operation
 fn comparison_of(code: u64) -> Operation
     ensures { result ≡ comparison_of code }
 {
-    let condition = condition_of(code);
+    let condition = Condition::from(code);
     match code / 8 % 8 {
         0 => Operation::Cai(condition),
         1 => Operation::Cam(condition),

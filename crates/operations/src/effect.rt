@@ -1,16 +1,19 @@
 use stops::Stop;
 
-/// Where a program is, and its flags, a left half.
-#[derive(Clone, Copy)]
+/// The flag User: a user's program runs with it on, and cannot turn it off.
+pub const USER: u64 = 0o010000;
+
+/// Where a program is, and its flags: a number, as they stand in the left half of a PC word.
+#[derive(Clone, Copy, PartialEq, Eq, Debug)]
 pub struct Status {
     pub pc: u64,
     pub flags: u64,
 }
 
 /// What an instruction is given: its accumulator field, the words of that accumulator and of the next,
-/// its effective address, its operand, the word that flags may be taken from, and the call that it makes
-/// if it is one.
-#[derive(Clone, Copy)]
+/// its effective address, its operand, the word that flags may be taken from, the call that it makes
+/// if it is one, and the status after it was fetched, whose `pc` is already the address of the next instruction.
+#[derive(Clone, Copy, PartialEq, Eq, Debug)]
 pub struct Inputs {
     pub field: u64,
     pub ac: u64,
@@ -19,11 +22,12 @@ pub struct Inputs {
     pub operand: u64,
     pub flag_word: Option<u64>,
     pub call: u64,
+    pub status: Status,
 }
 
 /// What an instruction does: a word to store in memory, new words of accumulators A and A + 1, the status
 /// after it, and a stop if it makes one.
-#[derive(Clone, Copy)]
+#[derive(Clone, Copy, PartialEq, Eq, Debug)]
 pub struct Effect {
     pub store: Option<(u64, u64)>,
     pub a: Option<u64>,

@@ -1,4 +1,5 @@
-//! The fields of an instruction word.
+//! The fields of an instruction word. Each is read by a division and a remainder of its own: one function of a place and a
+//! width would say at each call what stands here once.
 
 ghost use Rattle.operations.specs.Fields.{opcode, accumulator, direct, index};
 ghost use Rattle.std.specs.Prelude.{◌≡◌};

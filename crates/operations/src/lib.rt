@@ -12,6 +12,6 @@ mod operation;
 mod tests;
 
 pub use decoding::decode;
-pub use effect::{Effect, Inputs, Status};
+pub use effect::{Effect, Inputs, Status, USER};
 pub use fields::{accumulator, index, is_direct, opcode};
 pub use operation::{Form, Instruction, MaskFrom, Mode, MoveMode, Operation, Shift};

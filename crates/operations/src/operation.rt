@@ -2,7 +2,7 @@ use arithmetic::Condition;
 use logic::{Change, HalfMove, SkipWhen};
 
 /// Where an arithmetic or Boolean instruction has its operand and its result: the code's last two bits.
-#[derive(Clone, Copy)]
+#[derive(Clone, Copy, PartialEq, Eq, Debug)]
 pub enum Mode {
     /// The word at E; to the accumulator.
     Basic,
@@ -14,8 +14,9 @@ pub enum Mode {
     Both,
 }
 
-/// Where a move has its source and its destination: the code's last two bits.
-#[derive(Clone, Copy)]
+/// Where a move has its source and its destination: the code's last two bits. A type beside `Mode`, since in its last two
+/// variants a move reads and stores otherwise than an arithmetic instruction does.
+#[derive(Clone, Copy, PartialEq, Eq, Debug)]
 pub enum MoveMode {
     /// From E to the accumulator.
     Basic,
@@ -28,7 +29,7 @@ pub enum MoveMode {
 }
 
 /// What a full-word move makes of the word.
-#[derive(Clone, Copy)]
+#[derive(Clone, Copy, PartialEq, Eq, Debug)]
 pub enum Form {
     /// MOVE
     Full,
@@ -41,7 +42,7 @@ pub enum Form {
 }
 
 /// The shifts and rotations, of one word and of two.
-#[derive(Clone, Copy)]
+#[derive(Clone, Copy, PartialEq, Eq, Debug)]
 pub enum Shift {
     Ash,
     Rot,
@@ -52,7 +53,7 @@ pub enum Shift {
 }
 
 /// What masks the bits of a test.
-#[derive(Clone, Copy)]
+#[derive(Clone, Copy, PartialEq, Eq, Debug)]
 pub enum MaskFrom {
     /// TR: the word 0,,E.
     Right,
@@ -65,7 +66,7 @@ pub enum MaskFrom {
 }
 
 /// An instruction that reads at most one word, stores at most one and changes at most two accumulators.
-#[derive(Clone, Copy)]
+#[derive(Clone, Copy, PartialEq, Eq, Debug)]
 pub enum Operation {
     MonitorCall,
     NotInstalled,
@@ -99,14 +100,14 @@ pub enum Operation {
     Aos(Condition),
     Soj(Condition),
     Sos(Condition),
-    /// A Boolean function, by its truth table.
+    /// A Boolean function, by its truth table: the number's four bits are the function's answers, and no code for it.
     Boolean(u64, Mode),
     HalfWord(HalfMove, MoveMode),
     Test(MaskFrom, Change, SkipWhen),
 }
 
 /// How a word is executed.
-#[derive(Clone, Copy)]
+#[derive(Clone, Copy, PartialEq, Eq, Debug)]
 pub enum Instruction {
     /// A call of the user's own, codes 001 to 037: it is stored at 40, and the word at 41 is executed.
     UserCall,

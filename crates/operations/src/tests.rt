@@ -15,55 +15,43 @@ fn fields_stand_where_the_octal_digits_say(rt: HostRuntime) {
 #[test]
 fn codes_are_decoded(rt: HostRuntime) {
     // 0 is no call of the user's, and 001 is
-    assert!(rt; matches!(decode(0), Instruction::Ordinary(Operation::MonitorCall)));
-    assert!(rt; matches!(decode(0o001000_000000), Instruction::UserCall));
+    assert_eq!(rt; decode(0), Instruction::Ordinary(Operation::MonitorCall));
+    assert_eq!(rt; decode(0o001000_000000), Instruction::UserCall);
     // MOVNM
-    assert!(rt;
-        matches!(
-            decode(0o212000_000000),
-            Instruction::Ordinary(Operation::Move(Form::Negated, MoveMode::Memory))
-        )
+    assert_eq!(rt;
+        decode(0o212000_000000),
+        Instruction::Ordinary(Operation::Move(Form::Negated, MoveMode::Memory))
     );
     // SOJG
-    assert!(rt;
-        matches!(
-            decode(0o367000_000000),
-            Instruction::Ordinary(Operation::Soj(Condition::Greater))
-        )
+    assert_eq!(rt;
+        decode(0o367000_000000),
+        Instruction::Ordinary(Operation::Soj(Condition::Greater))
     );
     // TLZE
-    assert!(rt;
-        matches!(
-            decode(0o623000_000000),
-            Instruction::Ordinary(Operation::Test(
-                MaskFrom::Left,
-                Change::Zeros,
-                SkipWhen::AllMaskedEqualZero
-            ))
-        )
+    assert_eq!(rt;
+        decode(0o623000_000000),
+        Instruction::Ordinary(Operation::Test(
+            MaskFrom::Left,
+            Change::Zeros,
+            SkipWhen::AllMaskedEqualZero
+        ))
     );
 }
 
 #[test]
 fn the_accumulator_field_of_a_jrst_counts(rt: HostRuntime) {
-    assert!(rt;
-        matches!(
-            decode(0o254000_000000),
-            Instruction::Ordinary(Operation::Jrst(false))
-        )
+    assert_eq!(rt;
+        decode(0o254000_000000),
+        Instruction::Ordinary(Operation::Jrst(false))
     );
     // JRST 2,
-    assert!(rt;
-        matches!(
-            decode(0o254100_000000),
-            Instruction::Ordinary(Operation::Jrst(true))
-        )
+    assert_eq!(rt;
+        decode(0o254100_000000),
+        Instruction::Ordinary(Operation::Jrst(true))
     );
     // JRST 4,
-    assert!(rt;
-        matches!(
-            decode(0o254200_000000),
-            Instruction::Ordinary(Operation::MonitorCall)
-        )
+    assert_eq!(rt;
+        decode(0o254200_000000),
+        Instruction::Ordinary(Operation::MonitorCall)
     );
 }

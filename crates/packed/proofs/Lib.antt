@@ -1,4 +1,3 @@
-pub mod Pairwise
 pub mod Places
 pub mod RoundTrips
 pub mod Parts

@@ -1,9 +1,9 @@
 -- A part of the bytes, whole nines of them, holds a part of the words.
-use Rattle.std.proofs.Common.{◌≡◌, ℕ, zero, suc, ◌+◌, ◌-◌, ◌*◌, ◌<◌, ◌≤◌, List, [], ◌∷◌, length, take, drop, sym, refl, ap, ◌∙◌, arith}
+use Rattle.std.proofs.Common.{◌≡◌, ℕ, zero, suc, ◌+◌, ◌-◌, ◌*◌, ◌<◌, ◌≤◌, List, ◌∷◌, length, take, drop, sym, refl, ap, ◌∙◌, arith}
 use Rattle.memory.specs.Cut.{cut, length_cut}
 use Rattle.packed.specs.Layout.{even, odd, unpack}
 use Rattle.packed.specs.Nines.{by-nines}
-use Rattle.packed.specs.Words.{packed_words, length-unpack}
+use Rattle.packed.specs.Words.{packed_words, unpack-short, length-unpack}
 use Rattle.std.proofs.lemmas.List.{length-drop, length-take, nil_from_length, take_all, take-take, drop-take}
 
 -- the next pair is nine bytes and two words further on
@@ -12,9 +12,6 @@ nine k = omega arith
 
 two : (k : ℕ) → 2 * suc k ≡ suc (suc (2 * k))
 two k = omega arith
-
-unpack-short : (bs : List ℕ) → length bs < 9 → unpack bs ≡ []
-unpack-short bs l = nil_from_length (unpack bs) (omega (arith, length-unpack bs))
 
 abbrev TakesWords : List ℕ → Type 0
 TakesWords bs = (n : ℕ) → unpack (take (9 * n) bs) ≡ take (2 * n) (unpack bs)

@@ -1,7 +1,10 @@
 -- Where a word lies among the bytes: what reading it gives, and what putting it there changes.
-use Rattle.std.proofs.Common.{◌≡◌, ℕ, zero, suc, ◌+◌, ◌*◌, ◌/◌, ◌%◌, ◌^◌, ◌<◌, min, eqb, List, ◌∷◌, length, get_or, drop, set, refl, ap, ◌∙◌, ⊎_elim, arith}
-use Rattle.memory.specs.Cut.{cut, length_cut}
-use Rattle.packed.specs.Layout.{even, odd, unpack, put_even, put_odd, put_word}
+use Rattle.std.proofs.Common.{◌≡◌, sym, ℕ, zero, suc, ◌+◌, ◌*◌, ◌/◌, ◌%◌, ◌^◌, ◌<◌, ◌≤◌, [], take, w64, min, eqb, List, ◌∷◌, length, get_or, drop, set, refl, ap, ◌∙◌, ⊎_elim, arith}
+use Rattle.memory.specs.Cut.{cut, cuts, length_cut}
+use Rattle.std.specs.Simd.{first_chunks}
+use borrow.Rule.Slice.PartMut.{put_mid}
+use Rattle.std.specs.Int.{to_be_bytes}
+use Rattle.packed.specs.Layout.{even, odd, even_at, odd_at, unpack, put_even, put_odd, put_word}
 use Rattle.packed.specs.Nines.{by-nines}
 use Rattle.packed.specs.Words.{left_over, length-unpack}
 use Rattle.std.proofs.lemmas.List.{drop-set-lt, length-set}
@@ -20,26 +23,33 @@ two k = omega arith
 two₁ : (k : ℕ) → suc k * 2 + 1 ≡ suc (suc (k * 2 + 1))
 two₁ k = omega arith
 
--- the first and the second word of the pair at byte p
-abbrev even_at : List ℕ → ℕ → ℕ
-even_at bs p = even (get_or bs p 0) (get_or bs (p + 1) 0) (get_or bs (p + 2) 0) (get_or bs (p + 3) 0) (get_or bs (p + 4) 0)
-
-abbrev odd_at : List ℕ → ℕ → ℕ
-odd_at bs p = odd (get_or bs (p + 4) 0) (get_or bs (p + 5) 0) (get_or bs (p + 6) 0) (get_or bs (p + 7) 0) (get_or bs (p + 8) 0)
-
--- what is to show of each pair, by its number k
+-- what is to show of each pair, by its number k: the k-th nine of the first n holds its words
 abbrev ReadsPair : List ℕ → Type 0
-ReadsPair bs = (k : ℕ) → k * 9 + 8 < length bs → (get_or (unpack bs) (k * 2) 0 ≡ even_at bs (k * 9)) × (get_or (unpack bs) (k * 2 + 1) 0 ≡ odd_at bs (k * 9))
+ReadsPair bs =
+    (k n : ℕ) (d : List ℕ) → k < n → n * 9 ≤ length bs
+    → (get_or (unpack bs) (k * 2) 0 ≡ even_at (get_or (first_chunks 9 n bs) k d) 0) × (get_or (unpack bs) (k * 2 + 1) 0 ≡ odd_at (get_or (first_chunks 9 n bs) k d) 0)
 
 reads_more : (a b c d e f g h i : ℕ) (bs : List ℕ) → ReadsPair bs → ReadsPair (a ∷ b ∷ c ∷ d ∷ e ∷ f ∷ g ∷ h ∷ i ∷ bs)
 unfolding unpack
-reads_more a b c d e f g h i bs again zero l = (refl, refl)
-reads_more a b c d e f g h i bs again (suc k) l =
-    let less : k * 9 + 8 < length bs = omega arith in
-    (rw (two k, nine k 1, nine k 2, nine k 3, nine k 4, nine₀ k) (again k less).0, rw (two₁ k, nine k 4, nine k 5, nine k 6, nine k 7, nine k 8) (again k less).1)
+reads_more a b c d e f g h i bs again k zero x l m = absurd (omega arith)
+reads_more a b c d e f g h i bs again zero (suc n) x l m = (refl, refl)
+reads_more a b c d e f g h i bs again (suc k) (suc n) x l m =
+    let next = again k n x (omega arith) (omega arith) in
+    (rw (two k) next.0, rw (two₁ k) next.1)
 
 reads-pair : (bs : List ℕ) → ReadsPair bs
-reads-pair = by-nines ReadsPair (λ bs short k l. absurd (omega arith)) reads_more
+reads-pair = by-nines ReadsPair (λ bs short k n x l m. absurd (omega arith)) reads_more
+
+-- five bytes written in a row
+five-put : (p : ℕ) (bs : List ℕ) (u v x y z : ℕ) → p + 4 < length bs → put_mid p 5 bs (u ∷ v ∷ x ∷ y ∷ z ∷ []) ≡ set (set (set (set (set bs p u) (p + 1) v) (p + 2) x) (p + 3) y) (p + 4) z
+five-put zero (a ∷ b ∷ c ∷ d ∷ e ∷ bs) u v x y z l = refl
+five-put (suc p) (b ∷ bs) u v x y z l =
+    let one : suc p + 1 ≡ suc (p + 1) = omega arith in
+    let two : suc p + 2 ≡ suc (p + 2) = omega arith in
+    let three : suc p + 3 ≡ suc (p + 3) = omega arith in
+    let four : suc p + 4 ≡ suc (p + 4) = omega arith in
+    rw (one, two, three, four) (ap (λ (t : List ℕ). b ∷ t) (five-put p bs u v x y z (omega arith)))
+five-put p bs u v x y z l = absurd (omega arith)
 
 even-put : (w e : ℕ) → w < 2 ^ 36 → even (w / 2 ^ 28) (w / 2 ^ 20 % 2 ^ 8) (w / 2 ^ 12 % 2 ^ 8) (w / 2 ^ 4 % 2 ^ 8) (w % 2 ^ 4 * 2 ^ 4 + e % 2 ^ 4) ≡ w
 unfolding even
@@ -77,13 +87,55 @@ puts-more a b c d e f g h i bs again (suc k) w m l =
 puts-pair : (bs : List ℕ) → PutsPair bs
 puts-pair = by-nines PutsPair (λ bs short k w m l. absurd (omega arith)) puts-more
 
+-- a word and the half beside it, as the last five bytes of a number of eight
+five-even : (w s n : ℕ) → w < 2 ^ 36 → n ≡ w * 16 + s % 16 → drop 3 (to_be_bytes w64 n) ≡ (w / 2 ^ 28) ∷ (w / 2 ^ 20 % 2 ^ 8) ∷ (w / 2 ^ 12 % 2 ^ 8) ∷ (w / 2 ^ 4 % 2 ^ 8) ∷ (w % 2 ^ 4 * 2 ^ 4 + s % 2 ^ 4) ∷ []
+five-even w s n m e =
+    let a : n / 2 ^ 32 % 256 ≡ w / 2 ^ 28 = omega arith in
+    let b : n / 2 ^ 24 % 256 ≡ w / 2 ^ 20 % 2 ^ 8 = omega arith in
+    let c : n / 2 ^ 16 % 256 ≡ w / 2 ^ 12 % 2 ^ 8 = omega arith in
+    let d : n / 2 ^ 8 % 256 ≡ w / 2 ^ 4 % 2 ^ 8 = omega arith in
+    let f : n % 256 ≡ w % 2 ^ 4 * 2 ^ 4 + s % 2 ^ 4 = omega arith in
+    cc
+
+five-odd : (w s n : ℕ) → w < 2 ^ 36 → s < 2 ^ 8 → n ≡ s / 16 * 2 ^ 36 + w → drop 3 (to_be_bytes w64 n) ≡ (s / 2 ^ 4 * 2 ^ 4 + w / 2 ^ 32) ∷ (w / 2 ^ 24 % 2 ^ 8) ∷ (w / 2 ^ 16 % 2 ^ 8) ∷ (w / 2 ^ 8 % 2 ^ 8) ∷ (w % 2 ^ 8) ∷ []
+five-odd w s n m l e =
+    let a : n / 2 ^ 32 % 256 ≡ s / 2 ^ 4 * 2 ^ 4 + w / 2 ^ 32 = omega arith in
+    let b : n / 2 ^ 24 % 256 ≡ w / 2 ^ 24 % 2 ^ 8 = omega arith in
+    let c : n / 2 ^ 16 % 256 ≡ w / 2 ^ 16 % 2 ^ 8 = omega arith in
+    let d : n / 2 ^ 8 % 256 ≡ w / 2 ^ 8 % 2 ^ 8 = omega arith in
+    let f : n % 256 ≡ w % 2 ^ 8 = omega arith in
+    cc
+
 -- the same by the address
 module _ (bs : List ℕ) (a : ℕ) (in' : a < 2 * (length bs / 9)) where
-  pub get_or-even : a % 2 ≡ 0 → get_or (unpack bs) a 0 ≡ even_at bs (a / 2 * 9)
-  get_or-even z = let e : a ≡ a / 2 * 2 = omega arith in ap (λ n. get_or (unpack bs) n 0) e ∙ (reads-pair bs (a / 2) (omega arith)).0
+  pub get_or-even : (x : List ℕ) → a % 2 ≡ 0 → get_or (unpack bs) a 0 ≡ even_at (get_or (first_chunks 9 (length bs / 9) bs) (a / 2) x) 0
+  get_or-even x z = let e : a ≡ a / 2 * 2 = omega arith in ap (λ n. get_or (unpack bs) n 0) e ∙ (reads-pair bs (a / 2) (length bs / 9) x (omega arith) (omega arith)).0
 
-  pub get_or-odd : (a % 2 ≡ 0 → ⊥) → get_or (unpack bs) a 0 ≡ odd_at bs (a / 2 * 9)
-  get_or-odd z = let e : a ≡ a / 2 * 2 + 1 = omega arith in ap (λ n. get_or (unpack bs) n 0) e ∙ (reads-pair bs (a / 2) (omega arith)).1
+  pub get_or-odd : (x : List ℕ) → (a % 2 ≡ 0 → ⊥) → get_or (unpack bs) a 0 ≡ odd_at (get_or (first_chunks 9 (length bs / 9) bs) (a / 2) x) 0
+  get_or-odd x z = let e : a ≡ a / 2 * 2 + 1 = omega arith in ap (λ n. get_or (unpack bs) n 0) e ∙ (reads-pair bs (a / 2) (length bs / 9) x (omega arith) (omega arith)).1
+
+  -- the five bytes of a word, written in a row as the last ones of eight
+  module _ (w n k : ℕ) (eight five : List ℕ) (m : w < 2 ^ 36) (k-5 : k ≡ 5) (last : five ≡ take 5 (drop 3 eight)) (all : eight ≡ to_be_bytes w64 n) where
+    put-five : (p : ℕ) (bytes : List ℕ) → drop 3 (to_be_bytes w64 n) ≡ bytes → put_mid p k bs five ≡ put_mid p 5 bs bytes
+    put-five p bytes e = ap (λ j. put_mid p j bs five) k-5 ∙ ap (put_mid p 5 bs) (last ∙ ap (λ (t : List ℕ). take 5 (drop 3 t)) all ∙ e)
+
+    pub put-even : a % 2 ≡ 0 → n ≡ w * 16 + get_or bs (a / 2 * 9 + 4) 0 % 16 → put_mid (a / 2 * 9) k bs five ≡ put_word bs a w
+    unfolding put_word
+    put-even z e =
+        put-five (a / 2 * 9) _ (five-even w (get_or bs (a / 2 * 9 + 4) 0) n m e)
+        ∙ five-put (a / 2 * 9) bs _ _ _ _ _ (omega arith)
+        ∙ sym (cond-true (eqb (a % 2) 0) _ _ (eq-eqb (a % 2) 0 z))
+
+    pub put-odd : (a % 2 ≡ 0 → ⊥) → get_or bs (a / 2 * 9 + 4) 0 < 2 ^ 8 → n ≡ get_or bs (a / 2 * 9 + 4) 0 / 16 * 2 ^ 36 + w → put_mid (a / 2 * 9 + 4) k bs five ≡ put_word bs a w
+    unfolding put_word
+    put-odd z l e =
+        let one : a / 2 * 9 + 4 + 1 ≡ a / 2 * 9 + 5 = omega arith in
+        let two : a / 2 * 9 + 4 + 2 ≡ a / 2 * 9 + 6 = omega arith in
+        let three : a / 2 * 9 + 4 + 3 ≡ a / 2 * 9 + 7 = omega arith in
+        let four : a / 2 * 9 + 4 + 4 ≡ a / 2 * 9 + 8 = omega arith in
+        put-five (a / 2 * 9 + 4) _ (five-odd w (get_or bs (a / 2 * 9 + 4) 0) n m l e)
+        ∙ five-put (a / 2 * 9 + 4) bs _ _ _ _ _ (omega arith)
+        ∙ rw (one, two, three, four) (sym (cond-false (eqb (a % 2) 0) _ _ (ne_eqb (a % 2) 0 z)))
 
   -- a word put among the bytes is that word of the list, and no other word changes
   pub unpack-put_word : (w : ℕ) → w < 2 ^ 36 → unpack (put_word bs a w) ≡ set (unpack bs) a w
@@ -129,3 +181,5 @@ pub left_over-put_word : (bs : List ℕ) (a w : ℕ) → a < length (cut (unpack
 unfolding left_over
 left_over-put_word bs a w l =
     rw (length-put_word bs a w) (drop-put_word (9 * min 131072 (length bs / 9)) bs a w (omega (arith, length_cut (unpack bs), length-unpack bs)))
+
+pub ruleset places = (cuts, length-unpack, unpack-put_word, left_over-put_word)

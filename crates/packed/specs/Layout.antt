@@ -10,6 +10,13 @@ even a b c d e = (a * 2 ^ 28 + b * 2 ^ 20 + c * 2 ^ 12 + d * 2 ^ 4 + e / 2 ^ 4) 
 unfoldable pub odd : ℕ → ℕ → ℕ → ℕ → ℕ → ℕ
 odd e f g h i = (e % 2 ^ 4 * 2 ^ 32 + f * 2 ^ 24 + g * 2 ^ 16 + h * 2 ^ 8 + i) % 2 ^ 36
 
+-- the first and the second word of the pair at byte p
+abbrev pub even_at : List ℕ → ℕ → ℕ
+even_at bs p = even (slice_index bs p) (slice_index bs (p + 1)) (slice_index bs (p + 2)) (slice_index bs (p + 3)) (slice_index bs (p + 4))
+
+abbrev pub odd_at : List ℕ → ℕ → ℕ
+odd_at bs p = odd (slice_index bs (p + 4)) (slice_index bs (p + 5)) (slice_index bs (p + 6)) (slice_index bs (p + 7)) (slice_index bs (p + 8))
+
 -- two words for each nine bytes; fewer than nine are no word
 unfoldable pub unpack : List ℕ → List ℕ
 unpack (a ∷ b ∷ c ∷ d ∷ e ∷ f ∷ g ∷ h ∷ i ∷ bs) = even a b c d e ∷ odd e f g h i ∷ unpack bs

@@ -20,7 +20,7 @@ left_over bs = drop (9 * min 131072 (length bs / 9)) bs
 abbrev pub packed_rest : MutBor (List ℕ) → GName × List ℕ
 packed_rest bytes = (bytes.ghost_name, left_over bytes.now)
 
-unpack-short : (bs : List ℕ) → length bs < 9 → unpack bs ≡ []
+pub unpack-short : (bs : List ℕ) → length bs < 9 → unpack bs ≡ []
 unfolding unpack
 unpack-short (a ∷ b ∷ c ∷ d ∷ e ∷ f ∷ g ∷ h ∷ i ∷ bs) l = absurd (omega arith)
 unpack-short (a ∷ b ∷ c ∷ d ∷ e ∷ f ∷ g ∷ h ∷ []) l = refl

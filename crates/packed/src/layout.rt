@@ -1,26 +1,24 @@
-ghost use Rattle.std.specs.Prelude.{◌≡◌, ℕ, ◌*◌, ◌/◌, ◌^◌, ◌<◌, length, slice_index};
-ghost use Rattle.packed.specs.Layout.{even, odd, unpack, put_word};
+ghost use Rattle.std.specs.Prelude.{◌≡◌, ◌*◌, ◌/◌, ◌^◌, ◌<◌, length, slice_index};
+ghost use Rattle.packed.specs.Layout.{even_at, odd_at, unpack, put_word};
+
+use words::WORD_LIMIT;
 
 /// The first word of a pair: four bytes and the high half of the fifth.
-fn even_word(a: u8, b: u8, c: u8, d: u8, e: u8) -> u64
-    ensures { result ≡ even a b c d e }
+#[tactic(auto, unfolding(crate::specs::Layout::even))]
+fn even_word(pair: &[u8; 9]) -> u64
+    ensures { result ≡ even_at pair.now 0 }
 {
-    u64::from(a) * 0x1000_0000
-        + u64::from(b) * 0x10_0000
-        + u64::from(c) * 0x1000
-        + u64::from(d) * 0x10
-        + u64::from(e) / 0x10
+    let [a, b, c, d, e, ..] = *pair;
+    u64::from_be_bytes([0, 0, 0, a, b, c, d, e]) / 0x10
 }
 
 /// The second: the low half of the fifth byte and the four after it.
-fn odd_word(e: u8, f: u8, g: u8, h: u8, i: u8) -> u64
-    ensures { result ≡ odd e f g h i }
+#[tactic(auto, unfolding(crate::specs::Layout::odd))]
+fn odd_word(pair: &[u8; 9]) -> u64
+    ensures { result ≡ odd_at pair.now 0 }
 {
-    u64::from(e) % 0x10 * 0x1_0000_0000
-        + u64::from(f) * 0x100_0000
-        + u64::from(g) * 0x1_0000
-        + u64::from(h) * 0x100
-        + u64::from(i)
+    let [.., e, f, g, h, i] = *pair;
+    u64::from_be_bytes([0, 0, 0, e, f, g, h, i]) % WORD_LIMIT
 }
 
 /// Word `a` of these bytes.
@@ -28,23 +26,12 @@ pub(crate) fn get_word(bytes: &[u8], a: u64) -> u64
     requires { a < 2 * (length bytes.now / 9) }
     ensures { result ≡ slice_index (unpack bytes.now) a }
 {
-    let p = (a / 2 * 9) as usize;
+    let (pairs, _) = bytes.as_chunks::<9>();
+    let pair = &pairs[(a / 2) as usize];
     if a % 2 == 0 {
-        even_word(
-            bytes[p],
-            bytes[p + 1],
-            bytes[p + 2],
-            bytes[p + 3],
-            bytes[p + 4],
-        )
+        even_word(pair)
     } else {
-        odd_word(
-            bytes[p + 4],
-            bytes[p + 5],
-            bytes[p + 6],
-            bytes[p + 7],
-            bytes[p + 8],
-        )
+        odd_word(pair)
     }
 }
 
@@ -53,19 +40,14 @@ pub(crate) fn put_word(bytes: &mut [u8], a: u64, w: u64)
     requires { (a < 2 * (length bytes.old / 9)) × (w < 2 ^ 36) }
     ensures { bytes.new ≡ put_word bytes.old a w }
 {
+    // By index, since the contract of `as_chunks_mut` does not say what the bytes are in the end.
     let p = (a / 2 * 9) as usize;
-    let shared = bytes[p + 4];
+    let shared = u64::from(bytes[p + 4]);
     if a % 2 == 0 {
-        bytes[p] = (w >> 28) as u8;
-        bytes[p + 1] = ((w >> 20) % 0x100) as u8;
-        bytes[p + 2] = ((w >> 12) % 0x100) as u8;
-        bytes[p + 3] = ((w >> 4) % 0x100) as u8;
-        bytes[p + 4] = (w % 0x10) as u8 * 0x10 + shared % 0x10;
+        let five = (w * 0x10 + shared % 0x10).to_be_bytes();
+        bytes[p..p + 5].copy_from_slice(&five[3..]);
     } else {
-        bytes[p + 4] = shared / 0x10 * 0x10 + (w >> 32) as u8;
-        bytes[p + 5] = ((w >> 24) % 0x100) as u8;
-        bytes[p + 6] = ((w >> 16) % 0x100) as u8;
-        bytes[p + 7] = ((w >> 8) % 0x100) as u8;
-        bytes[p + 8] = (w % 0x100) as u8;
+        let five = (shared / 0x10 * WORD_LIMIT + w).to_be_bytes();
+        bytes[p + 4..p + 9].copy_from_slice(&five[3..]);
     }
 }

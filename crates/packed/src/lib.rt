@@ -7,5 +7,5 @@ mod layout;
 mod packed_core;
 mod packing;
 
-pub use packed_core::PackedCore;
+pub use packed_core::{BLOCK_BYTES, PackedCore};
 pub use packing::{PackingError, pack, unpack};

@@ -6,8 +6,11 @@ ghost use Rattle.std.specs.Prelude.{◌≡◌, ℕ, List, is_ok, if◌then◌els
 ghost use Rattle.std.specs.Borrow.{GName};
 
 use crate::layout::{get_word, put_word};
-use memory::{CORE_LIMIT, Core};
-use words::{Refusal, WORD_LIMIT};
+use memory::{BLOCK_WORDS, CORE_LIMIT, Core};
+use words::Refusal;
+
+/// The words of a block lie in this many bytes.
+pub const BLOCK_BYTES: usize = BLOCK_WORDS as usize / 2 * 9;
 
 /// A core over lent bytes, two words in nine.
 #[derive(Drop)]
@@ -26,6 +29,7 @@ impl<'a> PackedCore<'a> {
     }
 }
 
+#[tactic(auto, using(crate::proofs::Places::places))]
 impl<'a> Core for PackedCore<'a> {
     ghost words = { λ c. packed_words c.bytes.now };
 
@@ -38,30 +42,24 @@ impl<'a> Core for PackedCore<'a> {
     ghost narrow = { λ c. narrow-packed c.bytes.now };
 
     fn len(&self) -> u64 {
-        let n = 2 * (self.bytes.len() as u64 / 9);
-        if n < CORE_LIMIT { n } else { CORE_LIMIT }
+        (self.bytes.len() as u64 / 9 * 2).min(CORE_LIMIT)
     }
 
     fn read(&self, a: u64) -> Result<u64, Refusal> {
-        if a < self.len() {
-            Ok(get_word(self.bytes, a))
-        } else {
-            Err(Refusal::AddressOutsideCore)
+        if a >= self.len() {
+            return Err(Refusal::AddressOutsideCore);
         }
+        Ok(get_word(self.bytes, a))
     }
 
     /// The lent bytes after it: the word's own 36 bits are the word's, and every other bit is as it was.
     fn write(&mut self, a: u64, w: u64) -> Result<(), Refusal>
         ensures does { Writes (packed_words self.old.bytes.now) a w (packed_words self.new.bytes.now) result }
         ensures keeps { packed_rest self.new.bytes ≡ packed_rest self.old.bytes }
-        ensures bytes { self.new.bytes.now ≡ (if is_ok result then put_word self.old.bytes.now a w else self.old.bytes.now) }
+        ensures bytes { self.new.bytes.now
+            ≡ (if is_ok result then put_word self.old.bytes.now a w else self.old.bytes.now) }
     {
-        if w >= WORD_LIMIT {
-            return Err(Refusal::NotAWord);
-        }
-        if a >= self.len() {
-            return Err(Refusal::AddressOutsideCore);
-        }
+        self.check_write(a, w)?;
         put_word(self.bytes, a, w);
         Ok(())
     }
@@ -70,6 +68,7 @@ impl<'a> Core for PackedCore<'a> {
 #[cfg(test)]
 mod tests {
     use super::*;
+    use words::WORD_LIMIT;
 
     #[test]
     fn the_shared_byte_keeps_the_other_half(rt: HostRuntime) {

@@ -1,8 +1,8 @@
-ghost use Rattle.std.specs.Prelude.{◌≡◌, ◌^◌, ◌<◌, [], ◌∷◌, OnOk};
+ghost use Rattle.std.specs.Prelude.{◌≡◌, OnOk};
 ghost use Rattle.packed.specs.Layout.{pack as packed, unpack as unpacked};
 ghost use Rattle.packed.specs.Packing.{Packs, Unpacks};
 
-use crate::layout::get_word;
+use crate::layout::{get_word, put_word};
 use words::all_words;
 
 /// Why nothing was packed or unpacked. Where several hold, the first of them is given.
@@ -18,24 +18,6 @@ pub enum PackingError {
     NotAWord,
 }
 
-/// The nine bytes of a pair.
-fn pair_bytes(u: u64, v: u64) -> [u8; 9]
-    requires { (u < 2 ^ 36) × (v < 2 ^ 36) }
-    ensures { result ≡ packed (u ∷ v ∷ []) }
-{
-    [
-        (u >> 28) as u8,
-        ((u >> 20) % 0x100) as u8,
-        ((u >> 12) % 0x100) as u8,
-        ((u >> 4) % 0x100) as u8,
-        (u % 0x10) as u8 * 0x10 + (v >> 32) as u8,
-        ((v >> 24) % 0x100) as u8,
-        ((v >> 16) % 0x100) as u8,
-        ((v >> 8) % 0x100) as u8,
-        (v % 0x100) as u8,
-    ]
-}
-
 /// Packs whole pairs of words into a buffer of nine bytes for each.
 pub fn pack(words: &[u64], bytes: &mut [u8]) -> Result<(), PackingError>
     ensures packs { Packs words.now bytes.old bytes.new result }
@@ -44,16 +26,14 @@ pub fn pack(words: &[u64], bytes: &mut [u8]) -> Result<(), PackingError>
     if words.len() % 2 != 0 {
         return Err(PackingError::NotWholePairs);
     }
-    let pairs = words.len() / 2;
-    if bytes.len() % 9 != 0 || bytes.len() / 9 != pairs {
+    if bytes.len() != words.len() / 2 * 9 {
         return Err(PackingError::WrongLength);
     }
     if !all_words(words) {
         return Err(PackingError::NotAWord);
     }
-    for i in 0..pairs {
-        let nine = pair_bytes(words[2 * i], words[2 * i + 1]);
-        bytes[9 * i..9 * i + 9].copy_from_slice(&nine);
+    for (k, &w) in words.iter().enumerate() {
+        put_word(bytes, k as u64, w);
     }
     Ok(())
 }
@@ -69,8 +49,8 @@ pub fn unpack(bytes: &[u8], words: &mut [u64]) -> Result<(), PackingError>
     if words.len() != bytes.len() / 9 * 2 {
         return Err(PackingError::WrongLength);
     }
-    for k in 0..words.len() {
-        words[k] = get_word(bytes, k as u64);
+    for (k, word) in words.iter_mut().enumerate() {
+        *word = get_word(bytes, k as u64);
     }
     Ok(())
 }

@@ -1,7 +1,7 @@
 -- Reading and writing either part of an interleaved core.
 use Rattle.std.proofs.Common.{◌≡◌, ℕ, zero, suc, ◌+◌, ◌*◌, ◌/◌, ◌%◌, ◌<◌, min, List, [], ◌∷◌, length, get_or, set, Result, refl, ap, ◌∙◌, arith}
 use Rattle.memory.specs.Access.{Reads, Writes}
-use Rattle.memory.specs.Cut.{length_cut}
+use Rattle.memory.specs.Cut.{length_cut, cuts}
 use Rattle.pairs.proofs.Whole.{reads-part, writes-part, keeps-part}
 use Rattle.pairs.specs.Interleaving.{weave, reach, interleaved_words, interleaved_rest}
 use Rattle.std.proofs.lemmas.List.{length-set, drop-set-lt}
@@ -91,3 +91,5 @@ module _ (xs ys : List ℕ) (a : ℕ) (in' : a < length (interleaved_words xs ys
         let past = drop-set-lt (reach xs ys) ys (a / 2) w (within-reach xs ys a in') in
         cc)
         after r
+
+pub ruleset interleavings = (cuts, length-weave, reads-even, reads-odd, writes-even, writes-odd, keeps-even, keeps-odd)

@@ -1,7 +1,7 @@
 -- Reading and writing either part of a joined core.
 use Rattle.std.proofs.Common.{◌≡◌, ℕ, ◌-◌, ◌<◌, ◌≤◌, List, ◌++◌, length, Result, sym, refl, ap, ◌∙◌, arith}
 use Rattle.memory.specs.Access.{Reads, Writes}
-use Rattle.memory.specs.Cut.{over, over-set}
+use Rattle.memory.specs.Cut.{over, over-set, cuts}
 use Rattle.pairs.proofs.Whole.{reads-part, writes-part, keeps-part}
 use Rattle.pairs.specs.Joining.{joined_words, joined_rest}
 use Rattle.std.proofs.lemmas.List.{length-append, length-set, get_or_append_left, get_or-append_right, set-append_left, set-append_right}
@@ -35,3 +35,5 @@ module _ (xs ys : List ℕ) (a : ℕ) (top : a < 262144) where
         keeps-part (λ t. joined_rest xs t) ys (a - length xs) w
         (λ _. let past = ap over (sym (set-append_right xs ys (length xs) a w refl l)) ∙ over-set (xs ++ ys) a w top in cc)
         after r
+
+pub ruleset joinings = (cuts, length-append, reads-low, reads-high, writes-low, writes-high, keeps_low, keeps_high)

@@ -3,7 +3,7 @@ ghost use Rattle.pairs.specs.Interleaving.{weave, interleaved_words, interleaved
 ghost use Rattle.std.specs.Prelude.{◌≡◌, ℕ, List};
 
 use memory::{CORE_LIMIT, Core};
-use words::{Refusal, WORD_LIMIT};
+use words::Refusal;
 
 /// The words of two cores in turn: even addresses in the first, odd ones in the second.
 #[derive(Drop)]
@@ -30,6 +30,7 @@ impl<L: Core, R: Core> Interleaved<L, R> {
     }
 }
 
+#[tactic(auto, using(crate::proofs::InterleavedLaws::interleavings))]
 impl<L: Core, R: Core> Core for Interleaved<L, R> {
     ghost words = { λ c. interleaved_words (L.Core.words c.even) (R.Core.words c.odd) };
 
@@ -42,35 +43,23 @@ impl<L: Core, R: Core> Core for Interleaved<L, R> {
     ghost narrow = { λ c. narrow-interleaved (L.Core.words c.even) (R.Core.words c.odd) (L.Core.narrow c.even) (R.Core.narrow c.odd) };
 
     fn len(&self) -> u64 {
-        let m = self.even.len();
-        let n = self.odd.len();
-        let shorter = if m < n { m } else { n };
-        if shorter < CORE_LIMIT / 2 {
-            2 * shorter
-        } else {
-            CORE_LIMIT
-        }
+        let shorter = self.even.len().min(self.odd.len());
+        (2 * shorter).min(CORE_LIMIT)
     }
 
     fn read(&self, a: u64) -> Result<u64, Refusal> {
-        if a < self.len() {
-            if a % 2 == 0 {
-                self.even.read(a / 2)
-            } else {
-                self.odd.read(a / 2)
-            }
+        if a >= self.len() {
+            return Err(Refusal::AddressOutsideCore);
+        }
+        if a % 2 == 0 {
+            self.even.read(a / 2)
         } else {
-            Err(Refusal::AddressOutsideCore)
+            self.odd.read(a / 2)
         }
     }
 
     fn write(&mut self, a: u64, w: u64) -> Result<(), Refusal> {
-        if w >= WORD_LIMIT {
-            return Err(Refusal::NotAWord);
-        }
-        if a >= self.len() {
-            return Err(Refusal::AddressOutsideCore);
-        }
+        self.check_write(a, w)?;
         if a % 2 == 0 {
             self.even.write(a / 2, w)
         } else {

@@ -3,7 +3,7 @@ ghost use Rattle.pairs.specs.Joining.{joined_words, joined_rest, narrow-joined};
 ghost use Rattle.std.specs.Prelude.{◌≡◌, ℕ, List, ◌++◌};
 
 use memory::{CORE_LIMIT, Core};
-use words::{Refusal, WORD_LIMIT};
+use words::Refusal;
 
 /// The words of one core and then those of another.
 #[derive(Drop)]
@@ -29,6 +29,7 @@ impl<L: Core, R: Core> Joined<L, R> {
     }
 }
 
+#[tactic(auto, using(crate::proofs::JoinedLaws::joinings))]
 impl<L: Core, R: Core> Core for Joined<L, R> {
     ghost words = { λ c. joined_words (L.Core.words c.low) (R.Core.words c.high) };
 
@@ -41,8 +42,7 @@ impl<L: Core, R: Core> Core for Joined<L, R> {
     ghost narrow = { λ c. narrow-joined (L.Core.words c.low) (R.Core.words c.high) (L.Core.narrow c.low) (R.Core.narrow c.high) };
 
     fn len(&self) -> u64 {
-        let n = self.low.len() + self.high.len();
-        if n < CORE_LIMIT { n } else { CORE_LIMIT }
+        (self.low.len() + self.high.len()).min(CORE_LIMIT)
     }
 
     fn read(&self, a: u64) -> Result<u64, Refusal> {
@@ -58,12 +58,7 @@ impl<L: Core, R: Core> Core for Joined<L, R> {
     }
 
     fn write(&mut self, a: u64, w: u64) -> Result<(), Refusal> {
-        if w >= WORD_LIMIT {
-            return Err(Refusal::NotAWord);
-        }
-        if a >= CORE_LIMIT {
-            return Err(Refusal::AddressOutsideCore);
-        }
+        self.check_write(a, w)?;
         let n = self.low.len();
         if a < n {
             self.low.write(a, w)

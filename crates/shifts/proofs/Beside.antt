@@ -1,14 +1,12 @@
 -- The bits beside a sign: which are lost at the left, and what comes in there.
-use Rattle.std.proofs.Common.{◌≡◌, ℕ, ◌+◌, ◌-◌, ◌*◌, ◌/◌, ◌%◌, ◌^◌, ◌<◌, ◌≤◌, min, Bool, true, false, cond, not, eqb, sym, refl, ap, ◌∙◌, subst, ap₂, ⊎_elim, add-zero, mul-le-mul_right, mod-eq_of_lt, mul_comm, add-mul, zero-mul, mul-one, div-one, arith, pow_mono}
-use Rattle.shifts.proofs.Powers.{past-left, past-right}
+use Rattle.std.proofs.Common.{◌≡◌, ℕ, ◌+◌, ◌-◌, ◌*◌, ◌/◌, ◌%◌, ◌^◌, ◌<◌, ◌≤◌, Bool, true, false, cond, not, eqb, sym, ap, ◌∙◌, subst, ap₂, ⊎_elim, mul-le-mul_right, mul_comm, add-mul, zero-mul, arith, pow_mono}
+use Rattle.shifts.proofs.Powers.{past-right}
 use Rattle.shifts.specs.Arithmetic.{moved_beside, overflows}
-use Rattle.shifts.specs.Distance.{places}
 use Rattle.shifts.specs.declared.distances.Distance.{Distance}
 use Rattle.shifts.specs.declared.distances.Distance.TheVariants.{Left, Right}
-use Rattle.std.proofs.lemmas.Nat.{pow_pos, pow-add, pow_below, mod_below, div-add-mod', div-mul-add, mod-mul-add, le-div, shl_whole, shr_below, shr_le}
+use Rattle.std.proofs.lemmas.Nat.{pow_pos, pow-add, pow_below, mod_below, div-add-mod', div-mul-add, mod-mul-add, le-div, shr_below, shr_le}
 use Rattle.std.proofs.lemmas.Bool.{cases_eq, cases_lt, ne_eqb}
-use lib.Pow.{high_ones, mod-mod-pow, ones_lt}
-use native.Mathlib.Nat.{div-eq_of_lt, mul-div-mul_right, sub_self, sub-zero, zero-div, zero-mod}
+use native.Mathlib.Nat.{mul-div-mul_right, zero-div}
 
 pub lost-is : (m n width : ℕ) → n ≤ width → m * 2 ^ n / 2 ^ width ≡ m / 2 ^ (width - n)
 lost-is m n width l =
@@ -34,10 +32,9 @@ all-signs-fit m d p L e r h =
     let s : (p - 1) * L + m * p % L ≡ m * p = ap (λ (x : ℕ). x * L + m * p % L) (sym h) ∙ div-add-mod' (m * p) L in
     omega arith
 
--- to the left, within the width: computed in a wider register, with the bits that would be lost looked at before they are
-pub left-within : (m n width above : ℕ) (minus : Bool) (signs : ℕ) → n ≤ width → signs ≡ cond minus (2 ^ n - 1) 0 → ◌≡◌ {A = ℕ × Bool} (m * 2 ^ n % 2 ^ (above + width) % 2 ^ width, not (eqb (m / 2 ^ (width - n)) signs)) (moved_beside width minus m (Left n), overflows width minus m (Left n))
-left-within m n width above minus signs l e =
-    ap₂ (λ (x : ℕ) (y : Bool). (x, y)) (mod-mod-pow (m * 2 ^ n) above width) (ap₂ (λ (x y : ℕ). not (eqb x y)) (sym (lost-is m n width l)) e)
+-- to the left, within the width: the bits that would be lost are looked at before they are
+pub lost-few : (m n width : ℕ) (minus : Bool) (lost signs : ℕ) → n ≤ width → lost ≡ m / 2 ^ (width - n) → signs ≡ cond minus (2 ^ n - 1) 0 → not (eqb lost signs) ≡ overflows width minus m (Left n)
+lost-few m n width minus lost signs l p e = ap₂ (λ (x y : ℕ). not (eqb x y)) (p ∙ sym (lost-is m n width l)) e
 
 -- past the width a 0 is lost that came in at the right
 past-minus : (m n width : ℕ) → m < 2 ^ width → width < n → true ≡ overflows width true m (Left n)
@@ -59,35 +56,18 @@ past-plus m n width l =
     ap not (ne_eqb m 0 z ∙ sym (ne_eqb (m * 2 ^ n / 2 ^ width) 0 (λ f. omega arith))))
     (cases_eq m 0)
 
-pub left-past-minus : (m n width : ℕ) (minus : Bool) → m < 2 ^ width → width < n → minus ≡ true → ◌≡◌ {A = ℕ × Bool} (0, minus) (moved_beside width minus m (Left n), overflows width minus m (Left n))
-left-past-minus m n width minus h l e = rw e (ap₂ (λ (x : ℕ) (y : Bool). (x, y)) (sym (past-left m n width (omega arith))) (past-minus m n width h l))
+pub lost-minus : (m n width : ℕ) (minus : Bool) → m < 2 ^ width → width < n → minus ≡ true → minus ≡ overflows width minus m (Left n)
+lost-minus m n width minus h l e = rw e (past-minus m n width h l)
 
-pub left-past-plus : (m n width : ℕ) (minus : Bool) → width < n → minus ≡ false → ◌≡◌ {A = ℕ × Bool} (0, not (eqb m 0)) (moved_beside width minus m (Left n), overflows width minus m (Left n))
-left-past-plus m n width minus l e = rw e (ap₂ (λ (x : ℕ) (y : Bool). (x, y)) (sym (past-left m n width (omega arith))) (past-plus m n width l))
+pub lost-plus : (m n width : ℕ) (minus : Bool) → width < n → minus ≡ false → not (eqb m 0) ≡ overflows width minus m (Left n)
+lost-plus m n width minus l e = rw e (past-plus m n width l)
 
--- to the right as many places as the width has do all that more of them do
-few-places : (m n width : ℕ) → m < 2 ^ width → m / 2 ^ min n width ≡ m / 2 ^ n
-few-places m n width h =
-    ⊎_elim
-    (λ (l : n < width). ap (λ (x : ℕ). m / 2 ^ x) (omega arith))
-    (λ (l : width ≤ n).
-    let e : min n width ≡ width = omega arith in
-    ap (λ (x : ℕ). m / 2 ^ x) e ∙ past-right m width width h (omega arith) ∙ sym (past-right m n width h l))
-    (cases_lt n width)
-
-filled : (n width places above : ℕ) (minus : Bool) → places ≡ min n width → cond minus (2 ^ places - 1) 0 * 2 ^ (width - places) % 2 ^ (above + width) ≡ cond minus (2 ^ width - 2 ^ (width - n)) 0
-filled n width places above true e =
-    let s : places + (width - places) ≡ width = omega arith in
-    let t : width - places ≡ width - n = omega arith in
-    shl_whole (2 ^ places - 1) places (width - places) (above + width) (ones_lt places) (omega arith)
-    ∙ sym (high_ones places (width - places)) ∙ ap₂ (λ (x y : ℕ). 2 ^ x - 2 ^ y) s t
-filled n width places above false e = ap (λ (x : ℕ). x % 2 ^ (above + width)) (zero-mul (2 ^ (width - places))) ∙ zero-mod (2 ^ (above + width))
-
-pub right-within : (m n width above : ℕ) (minus : Bool) (places signs : ℕ) → m < 2 ^ width → places ≡ min n width → signs ≡ cond minus (2 ^ places - 1) 0 → m / 2 ^ places + signs * 2 ^ (width - places) % 2 ^ (above + width) ≡ moved_beside width minus m (Right n)
-right-within m n width above minus places signs h e f =
-    ap₂ (λ (x y : ℕ). x + y)
-    (ap (λ (x : ℕ). m / 2 ^ x) e ∙ few-places m n width h)
-    (ap (λ (x : ℕ). x * 2 ^ (width - places) % 2 ^ (above + width)) f ∙ filled n width places above minus e)
+-- to the right, bits equal to the sign come in
+pub moved-in : (n width : ℕ) (minus : Bool) (all rest : ℕ) → all ≡ cond minus (2 ^ width - 1) 0 → rest ≡ cond minus (2 ^ (width - n) - 1) 0 → (rest ≤ all) × (all - rest ≡ cond minus (2 ^ width - 2 ^ (width - n)) 0)
+moved-in n width true all rest p q =
+    let l : 2 ^ (width - n) ≤ 2 ^ width = pow_mono {i = width - n} {j = width} (omega arith) in
+    (omega arith, omega (arith, pow_pos (width - n)))
+moved-in n width false all rest p q = (omega arith, omega arith)
 
 -- what is moved stays within the width
 pub moved-below : (width : ℕ) (minus : Bool) (m : ℕ) (d : Distance) → m < 2 ^ width → moved_beside width minus m d < 2 ^ width
@@ -106,13 +86,9 @@ moved-below width true m (Right n) h =
     omega arith)
     (cases_lt width n)
 
--- no place moves nothing
-pub unmoved : (width : ℕ) (minus : Bool) (m : ℕ) (d : Distance) → m < 2 ^ width → places d ≡ 0 → moved_beside width minus m d ≡ m
-unmoved width minus m (Left n) h z = subst (λ (k : ℕ). m * 2 ^ k % 2 ^ width ≡ m) (sym z) (ap (λ (x : ℕ). x % 2 ^ width) (mul-one m) ∙ mod-eq_of_lt h)
-unmoved width true m (Right n) h z = subst (λ (k : ℕ). m / 2 ^ k + (2 ^ width - 2 ^ (width - k)) ≡ m) (sym z) (simp (div-one, sub-zero, sub_self, add-zero))
-unmoved width false m (Right n) h z = subst (λ (k : ℕ). m / 2 ^ k + 0 ≡ m) (sym z) (simp (div-one, add-zero))
-
-pub unlost : (width : ℕ) (minus : Bool) (m : ℕ) (d : Distance) → m < 2 ^ width → places d ≡ 0 → overflows width minus m d ≡ false
-unlost width true m (Left n) h z = subst (λ (k : ℕ). not (eqb (m * 2 ^ k / 2 ^ width) (2 ^ k - 1)) ≡ false) (sym z) (ap (λ (x : ℕ). not (eqb x 0)) (ap (λ (x : ℕ). x / 2 ^ width) (mul-one m) ∙ div-eq_of_lt h))
-unlost width false m (Left n) h z = subst (λ (k : ℕ). not (eqb (m * 2 ^ k / 2 ^ width) 0) ≡ false) (sym z) (ap (λ (x : ℕ). not (eqb x 0)) (ap (λ (x : ℕ). x / 2 ^ width) (mul-one m) ∙ div-eq_of_lt h))
-unlost width minus m (Right n) h z = refl
+-- what stays of the number, and the bits that come in beside it
+pub right-parts : (m n width : ℕ) (minus : Bool) (k all rest kept : ℕ) → m < 2 ^ width → all ≡ cond minus (2 ^ width - 1) 0 → k ≡ width - n → rest ≡ cond minus (2 ^ k - 1) 0 → kept ≡ m / 2 ^ n → (kept + (all - rest) ≡ moved_beside width minus m (Right n)) × (kept + (all - rest) < 2 ^ width)
+right-parts m n width minus k all rest kept h p e q r =
+    let i = moved-in n width minus all rest p (q ∙ ap (λ (x : ℕ). cond minus (2 ^ x - 1) 0) e) in
+    let s : kept + (all - rest) ≡ moved_beside width minus m (Right n) = ap₂ (λ (x y : ℕ). x + y) r i.1 in
+    (s, subst (λ (x : ℕ). x < 2 ^ width) (sym s) (moved-below width minus m (Right n) h))

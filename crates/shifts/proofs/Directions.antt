@@ -5,11 +5,11 @@ use Rattle.shifts.specs.declared.distances.Distance.{Distance}
 use Rattle.shifts.specs.declared.distances.Distance.TheVariants.{Left, Right}
 use Rattle.std.proofs.lemmas.Bool.{cond-true, cond-false, lt-ltb, le-ltb, cases_lt, cases_eq}
 
-pub goes_left : (e : ℕ) → e % 2 ^ 18 < 2 ^ 17 → distance_of e ≡ Left (e % 256)
+goes_left : (e : ℕ) → e % 2 ^ 18 < 2 ^ 17 → distance_of e ≡ Left (e % 256)
 unfolding distance_of
 goes_left e h = cond-true (ltb (e % 2 ^ 18) (2 ^ 17)) (Left (e % 256)) (Right ((2 ^ 18 - e % 2 ^ 18) % 256)) (lt-ltb (e % 2 ^ 18) (2 ^ 17) h)
 
-pub goes-right : (e : ℕ) → 2 ^ 17 ≤ e % 2 ^ 18 → distance_of e ≡ Right ((2 ^ 18 - e % 2 ^ 18) % 256)
+goes-right : (e : ℕ) → 2 ^ 17 ≤ e % 2 ^ 18 → distance_of e ≡ Right ((2 ^ 18 - e % 2 ^ 18) % 256)
 unfolding distance_of
 goes-right e h = cond-false (ltb (e % 2 ^ 18) (2 ^ 17)) (Left (e % 256)) (Right ((2 ^ 18 - e % 2 ^ 18) % 256)) (le-ltb (e % 2 ^ 18) (2 ^ 17) h)
 

@@ -1,6 +1,5 @@
 mod Beside
 mod Directions
-mod Examples
 mod PairScaling
 mod Pairing
 mod Powers

@@ -15,6 +15,12 @@ past-left m n width l =
 pub past-right : (m n width : ℕ) → m < 2 ^ width → width ≤ n → m / 2 ^ n ≡ 0
 past-right m n width h l = div-eq_of_lt (lt_of_lt_of_le h (pow_mono l))
 
+-- what is moved to the left in a wider register, and cut to the width there
+pub cut_shl : (m n width : ℕ) → width ≤ 128 → m * 2 ^ n % 2 ^ 128 % 2 ^ width ≡ m * 2 ^ n % 2 ^ width
+cut_shl m n width l =
+    let s : (128 - width) + width ≡ 128 = omega arith in
+    subst (λ (x : ℕ). m * 2 ^ n % 2 ^ x % 2 ^ width ≡ m * 2 ^ n % 2 ^ width) s (mod-mod-pow (m * 2 ^ n) (128 - width) width)
+
 -- of j + k bits that move k places to the left, the j lowest stay
 pub shl-mod : (m j k : ℕ) → m * 2 ^ k % 2 ^ (j + k) ≡ m % 2 ^ j * 2 ^ k
 shl-mod m j k =
@@ -25,8 +31,12 @@ shl-mod m j k =
     let b : m % 2 ^ j * 2 ^ k < 2 ^ (j + k) = subst (λ (x : ℕ). m % 2 ^ j * 2 ^ k < x) (sym p) (mul-lt-mul_of_pos_right (mod_below m (2 ^ j) (pow_pos j)) (pow_pos k)) in
     ap (λ (x : ℕ). x % 2 ^ (j + k)) s ∙ mod_low (m / 2 ^ j) (j + k) (m % 2 ^ j * 2 ^ k) b
 
--- the same, computed in a wider register
-pub shl-field : (m n width above : ℕ) → n ≤ width → m * 2 ^ n % 2 ^ (above + width) % 2 ^ width ≡ m % 2 ^ (width - n) * 2 ^ n
-shl-field m n width above l =
+-- of a number of `width` bits that moves n places to the left, the lowest bits stay
+pub shl-low : (m n width : ℕ) → n ≤ width → m * 2 ^ n % 2 ^ width ≡ m % 2 ^ (width - n) * 2 ^ n
+shl-low m n width l =
     let s : width ≡ (width - n) + n = omega arith in
-    mod-mod-pow (m * 2 ^ n) above width ∙ ap (λ (x : ℕ). m * 2 ^ n % 2 ^ x) s ∙ shl-mod m (width - n) n
+    ap (λ (x : ℕ). m * 2 ^ n % 2 ^ x) s ∙ shl-mod m (width - n) n
+
+-- what has at most 72 bits is far below the limit of a register
+pub far-below : (m width : ℕ) → width ≤ 72 → m < 2 ^ width → m < 2 ^ 72
+far-below m width l h = lt_of_lt_of_le h (pow_mono l)

@@ -1,10 +1,10 @@
 -- An arithmetic shift multiplies or divides a signed value by a power of two.
 use Rattle.std.proofs.Common.{◌≡◌, ℕ, suc, ◌+◌, ◌-◌, ◌*◌, ◌/◌, ◌%◌, ◌^◌, ◌<◌, ◌≤◌, Bool, true, false, cond, not, eqb, ℤ, pos, negsuc, ◌+ℤ◌, ◌-ℤ◌, ◌*ℤ◌, ◌<ℤ◌, sym, refl, ap, ◌∙◌, subst, ap₂, ⊎_elim, add-zero, mod-eq_of_lt, add-mul, div-mul-le_self, arith, pow_mono}
-use Rattle.shifts.proofs.Beside.{all-signs, all-signs-fit, moved-below, unlost, unmoved}
+use Rattle.shifts.proofs.Beside.{all-signs, all-signs-fit, moved-below}
 use Rattle.shifts.proofs.Powers.{past-right}
-use Rattle.shifts.specs.Arithmetic.{moved_beside, overflows, sign_bit, arithmetic, SignStays}
+use Rattle.shifts.specs.Arithmetic.{moved_beside, overflows, sign_bit}
 use Rattle.words.specs.Signed.{is_negative as negative}
-use Rattle.shifts.specs.Distance.{distance_of, NoPlace}
+use Rattle.shifts.specs.Distance.{distance_of}
 use Rattle.shifts.specs.Scaling.{Divided, Scaled, ArithmeticScales}
 use Rattle.words.specs.Signed.{signed}
 use Rattle.shifts.specs.declared.distances.Distance.{Distance}
@@ -102,10 +102,6 @@ scaled width true m (Right n) h =
     subst (λ (z : ℤ). Divided z (2 ^ n) (pos (m / 2 ^ n + (2 ^ width - 2 ^ (width - n))) -ℤ pos (2 ^ width)) false) (sym a)
     (subst (λ (z : ℤ). Divided (negsuc d) (2 ^ n) z false) (sym b) (right-minus m d t.0 (2 ^ width) (2 ^ n) e t.2 t.3))
 
-pub arithmetic-below : (w e : ℕ) → (arithmetic w e).0 < 2 ^ 36
-unfolding arithmetic
-arithmetic-below w e = omega (arith, moved-below 35 (negative w) (w % 2 ^ 35) (distance_of e) (omega arith))
-
 signed_is : (w : ℕ) → signed w ≡ valued 35 (negative w) (w % 2 ^ 35)
 unfolding signed
 signed_is w = by (negative w) refl
@@ -122,24 +118,14 @@ sign-stays w m h =
     (λ (l : 2 ^ 35 ≤ w % 2 ^ 36). le-leb (2 ^ 35) ((sign_bit w + m) % 2 ^ 36) (omega arith) ∙ sym (le-leb (2 ^ 35) (w % 2 ^ 36) l))
     (cases_lt (w % 2 ^ 36) (2 ^ 35))
 
-pub arithmetic-still : (w e : ℕ) → NoPlace e → arithmetic w e ≡ (w % 2 ^ 36, false)
-unfolding arithmetic
-arithmetic-still w e z =
-    let h : w % 2 ^ 35 < 2 ^ 35 = omega arith in
-    let m = unmoved 35 (negative w) (w % 2 ^ 35) (distance_of e) h z in
-    ap₂ (λ (x : ℕ) (y : Bool). (x, y)) (omega (arith, m)) (unlost 35 (negative w) (w % 2 ^ 35) (distance_of e) h z)
-
-pub arithmetic-sign : (w e : ℕ) → SignStays w (arithmetic w e)
-unfolding arithmetic
-arithmetic-sign w e = sign-stays w (moved_beside 35 (negative w) (w % 2 ^ 35) (distance_of e)) (moved-below 35 (negative w) (w % 2 ^ 35) (distance_of e) (omega arith))
-
-pub arithmetic-scales : (w e : ℕ) → ArithmeticScales w e (arithmetic w e)
-unfolding arithmetic
-arithmetic-scales w e =
+pub arithmetic-scales : (w e : ℕ) (r : ℕ × Bool) → r ≡ (sign_bit w + moved_beside 35 (negative w) (w % 2 ^ 35) (distance_of e), overflows 35 (negative w) (w % 2 ^ 35) (distance_of e)) → ArithmeticScales w e r
+arithmetic-scales w e r v =
     let d = distance_of e in
     let h : w % 2 ^ 35 < 2 ^ 35 = omega arith in
     let m = moved_beside 35 (negative w) (w % 2 ^ 35) d in
     let b : m < 2 ^ 35 = moved-below 35 (negative w) (w % 2 ^ 35) d h in
-    let r : signed (sign_bit w + m) ≡ valued 35 (negative w) m = signed_is (sign_bit w + m) ∙ ap₂ (valued 35) (sign-stays w m b) (omega arith) in
-    subst (λ (z : ℤ). Scaled 35 z d (signed (sign_bit w + m)) (overflows 35 (negative w) (w % 2 ^ 35) d)) (sym (signed_is w))
-    (subst (λ (z : ℤ). Scaled 35 (valued 35 (negative w) (w % 2 ^ 35)) d z (overflows 35 (negative w) (w % 2 ^ 35) d)) (sym r) (scaled 35 (negative w) (w % 2 ^ 35) d h))
+    let o = overflows 35 (negative w) (w % 2 ^ 35) d in
+    let s : signed (sign_bit w + m) ≡ valued 35 (negative w) m = signed_is (sign_bit w + m) ∙ ap₂ (valued 35) (sign-stays w m b) (omega arith) in
+    subst (ArithmeticScales w e) (sym v)
+    (subst (λ (z : ℤ). Scaled 35 z d (signed (sign_bit w + m)) o) (sym (signed_is w))
+    (subst (λ (z : ℤ). Scaled 35 (valued 35 (negative w) (w % 2 ^ 35)) d z o) (sym s) (scaled 35 (negative w) (w % 2 ^ 35) d h)))

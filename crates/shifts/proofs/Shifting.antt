@@ -1,9 +1,9 @@
 -- A logical shift keeps the width, and the same shift back gives what did not pass the end.
 use Rattle.std.proofs.Common.{◌≡◌, ℕ, ◌+◌, ◌-◌, ◌*◌, ◌/◌, ◌%◌, ◌^◌, ◌<◌, ◌≤◌, sym, ap, ◌∙◌, subst, ⊎_elim, mod-eq_of_lt, mul-one, div-one, arith}
 use Rattle.shifts.proofs.Directions.{Opposed, left-right, right-left, left-still, right-still, opposed}
-use Rattle.shifts.proofs.Pairing.{paired-below, halves-below, paired-halves, halves-paired}
+use Rattle.shifts.proofs.Pairing.{paired-below, paired-halves}
 use Rattle.shifts.proofs.Powers.{past-left, shl-mod}
-use Rattle.shifts.specs.Distance.{distance_of, opposite, places, NoPlace}
+use Rattle.shifts.specs.Distance.{distance_of, opposite}
 use Rattle.shifts.specs.Logical.{shifted, kept, logical, logical_pair, LogicalThereAndBack, LogicalPairThereAndBack}
 use Rattle.shifts.specs.Pair.{paired, halves}
 use Rattle.shifts.specs.declared.distances.Distance.{Distance}
@@ -28,44 +28,24 @@ left-and-back width m n =
     ap (λ (x : ℕ). m * 2 ^ n % 2 ^ x / 2 ^ n) s ∙ ap (λ (x : ℕ). x / 2 ^ n) (shl-mod m (width - n) n) ∙ shl-shr (m % 2 ^ (width - n)) n)
     (cases_lt width n)
 
-shifted_none : (width m : ℕ) (d : Distance) → m < 2 ^ width → places d ≡ 0 → shifted width m d ≡ m
-shifted_none width m (Left n) h z = subst (λ (k : ℕ). m * 2 ^ k % 2 ^ width ≡ m) (sym z) (ap (λ (x : ℕ). x % 2 ^ width) (mul-one m) ∙ mod-eq_of_lt h)
-shifted_none width m (Right n) h z = subst (λ (k : ℕ). m / 2 ^ k ≡ m) (sym z) (div-one m)
-
 pub shifted_back : (width m : ℕ) {d o : Distance} → m < 2 ^ width → Opposed d o → shifted width (shifted width m d) o ≡ kept width m d
 shifted_back width m h (left-right n) = left-and-back width m n
 shifted_back width m h (right-left n) = mod-eq_of_lt (omega (arith, shr_split m n))
 shifted_back width m h left-still = let e : m % 2 ^ width ≡ m = mod-eq_of_lt h in simp (mul-one, sub-zero, e)
 shifted_back width m h right-still = simp (div-one, mul-one)
 
-pub logical-below : (w e : ℕ) → logical w e < 2 ^ 36
+pub logical-back : (w e r : ℕ) → r ≡ shifted 36 (w % 2 ^ 36) (distance_of e) → LogicalThereAndBack w e r
 unfolding logical
-logical-below w e = shifted-below 36 (w % 2 ^ 36) (distance_of e) (omega arith)
-
-pub logical-still : (w e : ℕ) → NoPlace e → logical w e ≡ w % 2 ^ 36
-unfolding logical
-logical-still w e z = shifted_none 36 (w % 2 ^ 36) (distance_of e) (omega arith) z
-
-pub logical-back : (w e : ℕ) → LogicalThereAndBack w e (logical w e)
-unfolding logical
-logical-back w e =
+logical-back w e r v =
     let h : w % 2 ^ 36 < 2 ^ 36 = omega arith in
-    let m = shifted 36 (w % 2 ^ 36) (distance_of e) in
-    let same : m % 2 ^ 36 ≡ m = mod-eq_of_lt (shifted-below 36 (w % 2 ^ 36) (distance_of e) h) in
-    ap (λ (x : ℕ). shifted 36 x (distance_of (opposite e))) same ∙ shifted_back 36 (w % 2 ^ 36) h (opposed e)
+    let same : r % 2 ^ 36 ≡ r = mod-eq_of_lt (subst (λ (x : ℕ). x < 2 ^ 36) (sym v) (shifted-below 36 (w % 2 ^ 36) (distance_of e) h)) in
+    ap (λ (x : ℕ). shifted 36 x (distance_of (opposite e))) (same ∙ v) ∙ shifted_back 36 (w % 2 ^ 36) h (opposed e)
 
-pub logical_pair-below : (a b e : ℕ) → ((logical_pair a b e).0 < 2 ^ 36) × ((logical_pair a b e).1 < 2 ^ 36)
+pub logical_pair-back : (a b e : ℕ) (r : ℕ × ℕ) → r ≡ halves (shifted 72 (paired a b) (distance_of e)) → LogicalPairThereAndBack a b e r
 unfolding logical_pair
-logical_pair-below a b e = halves-below (shifted 72 (paired a b) (distance_of e)) (shifted-below 72 (paired a b) (distance_of e) (paired-below a b))
-
-pub logical_pair-still : (a b e : ℕ) → NoPlace e → logical_pair a b e ≡ (a % 2 ^ 36, b % 2 ^ 36)
-unfolding logical_pair
-logical_pair-still a b e z = ap halves (shifted_none 72 (paired a b) (distance_of e) (paired-below a b) z) ∙ halves-paired a b
-
-pub logical_pair-back : (a b e : ℕ) → LogicalPairThereAndBack a b e (logical_pair a b e)
-unfolding logical_pair
-logical_pair-back a b e =
+logical_pair-back a b e r v =
     let h = paired-below a b in
     let m = shifted 72 (paired a b) (distance_of e) in
     let same : paired (halves m).0 (halves m).1 ≡ m = paired-halves m (shifted-below 72 (paired a b) (distance_of e) h) in
-    ap (λ (x : ℕ). halves (shifted 72 x (distance_of (opposite e)))) same ∙ ap halves (shifted_back 72 (paired a b) h (opposed e))
+    ap (λ (x : ℕ × ℕ). halves (shifted 72 (paired x.0 x.1) (distance_of (opposite e)))) v
+    ∙ ap (λ (x : ℕ). halves (shifted 72 x (distance_of (opposite e)))) same ∙ ap halves (shifted_back 72 (paired a b) h (opposed e))

@@ -6,3 +6,4 @@ pub mod Pair
 pub mod Rotations
 pub mod Scaling
 pub mod Specimens
+pub mod WordPair

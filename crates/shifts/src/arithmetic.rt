@@ -1,18 +1,18 @@
-ghost use Rattle.std.specs.Prelude.{◌≡◌, ◌-◌, ◌%◌, ◌^◌, ◌<◌, ◌≤◌, false, if◌then◌else◌};
-ghost use Rattle.shifts.specs.Arithmetic.{arithmetic, moved_beside, overflows, SignStays};
+ghost use Rattle.std.specs.Prelude.{◌≡◌, ◌%◌, ◌^◌, ◌<◌, false};
+ghost use Rattle.shifts.specs.Arithmetic.{arithmetic, arithmetic_pair, beside, sign_bit, SignShared, SignStays};
 ghost use Rattle.shifts.specs.Distance.{NoPlace};
-ghost use Rattle.shifts.specs.Scaling.{ArithmeticScales};
-ghost use Rattle.shifts.specs.Specimens.{ArithmeticSpecimens};
-ghost use Rattle.shifts.specs.declared.distances.Distance.TheVariants.{Left, Right};
+ghost use Rattle.shifts.specs.Scaling.{ArithmeticPairScales, ArithmeticScales};
+ghost use Rattle.shifts.specs.Specimens.{ArithmeticPairSpecimens, ArithmeticSpecimens};
+ghost use Rattle.shifts.specs.WordPair.{words_and_overflow};
 
-use crate::distances::Distance;
+use crate::bits::Bits;
 use crate::effective_address::distance;
-use words::WORD_LIMIT;
+use crate::pair::WordPair;
+use words::{SIGN_BIT, is_negative};
 
-/// What bit 0 of a word adds to it.
-pub(crate) const SIGN: u64 = 1 << 35;
-
-/// ASH: the word's signed value multiplied or divided by a power of two, and Overflow.
+/// ASH: the word's signed value multiplied or divided by a power of two, and Overflow, as an `overflowing_` method gives
+/// them: the word holds whatever the flag says.
+#[tactic(auto, unfolding(crate::specs::Arithmetic::arithmetic, crate::specs::Distance::distance_of))]
 pub fn ash(w: u64, e: u64) -> (u64, bool)
     ensures value { result ≡ arithmetic w e }
     ensures narrow { result.0 < 2 ^ 36 }
@@ -21,49 +21,46 @@ pub fn ash(w: u64, e: u64) -> (u64, bool)
     ensures still { NoPlace e → result ≡ (w % 2 ^ 36, false) }
     ensures specimens { ArithmeticSpecimens }
 {
-    let word = w % WORD_LIMIT;
-    let field = word % SIGN;
-    let (moved, overflow) = move_field(word >= SIGN, field, distance(e));
-    (word - field + moved, overflow)
+    let beside_sign = Bits::<35>::low(w.into());
+    let (moved, overflow) = beside_sign.move_beside(is_negative(w), distance(e));
+    (sign_bit(w) + moved.number as u64, overflow)
 }
 
-/// The 35 bits beside the sign, moved, and Overflow.
-fn move_field(minus: bool, field: u64, by: Distance) -> (u64, bool)
-    requires { field < 2 ^ 35 }
-    ensures { result ≡ (moved_beside 35 minus field by, overflows 35 minus field by) }
+/// ASHC: the signed value of the two words multiplied or divided by a power of two, and Overflow.
+/// The value leaves out bit 0 of the second word, which any move makes equal to bit 0 of the first.
+#[tactic(auto, unfolding(crate::specs::Arithmetic::arithmetic_pair, crate::specs::Distance::distance_of))]
+pub fn ashc(a: u64, b: u64, e: u64) -> (WordPair, bool)
+    ensures value { words_and_overflow result ≡ arithmetic_pair a b e }
+    ensures sign { SignShared a e (words_and_overflow result) }
+    ensures scales { ArithmeticPairScales a b e (words_and_overflow result) }
+    ensures still { NoPlace e → words_and_overflow result ≡ (a % 2 ^ 36, b % 2 ^ 36, false) }
+    ensures specimens { ArithmeticPairSpecimens }
 {
-    match by {
-        Distance::Left(n) => move_field_left(minus, field, n),
-        Distance::Right(n) => (move_field_right(minus, field, n), false),
+    let by = distance(e);
+    if by.places() == 0 {
+        return (WordPair::low(a, b), false);
+    }
+    let (moved, overflow) = beside_signs(a, b).move_beside(is_negative(a), by);
+    let sign = sign_bit(a);
+    let words = WordPair {
+        first: sign + (moved.number >> 35) as u64,
+        second: sign + (moved.number % u128::from(SIGN_BIT)) as u64,
+    };
+    (words, overflow)
+}
+
+/// The 70 bits beside the signs of the two words.
+fn beside_signs(a: u64, b: u64) -> Bits<70>
+    ensures { result.number ≡ beside a b }
+{
+    Bits {
+        number: (u128::from(a % SIGN_BIT) << 35) + u128::from(b % SIGN_BIT),
     }
 }
 
-/// To the left, where a bit that differs from the sign may be lost.
-fn move_field_left(minus: bool, field: u64, n: u64) -> (u64, bool)
-    requires { field < 2 ^ 35 }
-    ensures { result ≡ (moved_beside 35 minus field (Left n), overflows 35 minus field (Left n)) }
+/// What the sign adds to a word.
+fn sign_bit(w: u64) -> u64
+    ensures { result ≡ sign_bit w }
 {
-    if n < 36 {
-        ((field << n) % SIGN, field >> (35 - n) != signs(minus, n))
-    } else {
-        // the last bit lost is a 0 that came in at the right
-        (0, minus || field != 0)
-    }
-}
-
-/// To the right, with the sign in the places that fall empty. After 35 places there is only the sign.
-fn move_field_right(minus: bool, field: u64, n: u64) -> u64
-    requires { field < 2 ^ 35 }
-    ensures { result ≡ moved_beside 35 minus field (Right n) }
-{
-    let places = n.min(35);
-    (field >> places) + (signs(minus, places) << (35 - places))
-}
-
-/// As many bits as there are places, each equal to the sign.
-fn signs(minus: bool, places: u64) -> u64
-    requires { places ≤ 35 }
-    ensures { result ≡ (if minus then 2 ^ places - 1 else 0) }
-{
-    if minus { (1 << places) - 1 } else { 0 }
+    w & SIGN_BIT
 }

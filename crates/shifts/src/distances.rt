@@ -1,8 +1,8 @@
 ghost use Rattle.shifts.specs.Distance.{places};
 ghost use Rattle.std.specs.Prelude.{◌≡◌};
 
-/// Which way, and how many places, a shift or a rotation moves its word.
-#[derive(Clone, Copy)]
+/// Which way, and how many places, a shift or a rotation moves its word. No `Result`, since neither way is an error.
+#[derive(Clone, Copy, PartialEq, Eq, Debug)]
 pub enum Distance {
     Left(u64),
     Right(u64),
@@ -14,8 +14,7 @@ impl Distance {
         ensures { result ≡ places self }
     {
         match self {
-            Distance::Left(n) => n,
-            Distance::Right(n) => n,
+            Distance::Left(n) | Distance::Right(n) => n,
         }
     }
 }

@@ -4,7 +4,7 @@
 #![tactic(auto)]
 
 mod arithmetic;
-mod arithmetic_pair;
+mod bits;
 mod distances;
 mod effective_address;
 mod leading;
@@ -12,12 +12,12 @@ mod logical;
 mod pair;
 mod rotation;
 
-pub use arithmetic::ash;
-pub use arithmetic_pair::ashc;
+pub use arithmetic::{ash, ashc};
 pub use distances::Distance;
 pub use effective_address::distance;
 pub use leading::first_one;
 pub use logical::{lsh, lshc};
+pub use pair::WordPair;
 pub use rotation::{rot, rotc};
 
 #[cfg(test)]
@@ -37,11 +37,15 @@ mod tests {
 
     #[test]
     fn two_words(rt: HostRuntime) {
-        let (carried, emptied) = lshc(0, 0o400000_000000, 1);
-        assert!(rt; carried == 1 && emptied == 0);
-        let (turned, left) = rotc(0, 1, 0o777777);
-        assert!(rt; turned == 0o400000_000000 && left == 0);
-        let (first, second, overflow) = ashc(0o777777_777777, 0, 0o777777);
-        assert!(rt; first == 0o777777_777777 && second == 0o600000_000000 && !overflow);
+        let carried = lshc(0, 0o400000_000000, 1);
+        assert_eq!(rt; (carried.first, carried.second), (1, 0));
+        let turned = rotc(0, 1, 0o777777);
+        assert_eq!(rt; (turned.first, turned.second), (0o400000_000000, 0));
+        let (scaled, overflow) = ashc(0o777777_777777, 0, 0o777777);
+        assert_eq!(rt;
+            (scaled.first, scaled.second),
+            (0o777777_777777, 0o600000_000000)
+        );
+        assert!(rt; !overflow);
     }
 }

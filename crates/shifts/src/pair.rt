@@ -1,23 +1,53 @@
-ghost use Rattle.std.specs.Prelude.{◌≡◌, ◌^◌, ◌<◌};
-ghost use Rattle.shifts.specs.Pair.{paired, halves};
+ghost use Rattle.shifts.specs.Pair.{halves, paired};
+ghost use Rattle.std.specs.Prelude.{◌≡◌, ◌%◌, ◌^◌, ◌<◌};
 
+use crate::bits::Bits;
 use words::WORD_LIMIT;
 
-/// One more than the greatest number that two words side by side can be.
-pub(crate) const PAIR_LIMIT: u128 = 1 << 72;
+/// Two words. Side by side they are one number of 72 bits, with the first in the high half.
+#[derive(Clone, Copy, PartialEq, Eq, Debug)]
+pub struct WordPair {
+    pub first: u64,
+    pub second: u64,
+    pub ghost narrow_first: { first < 2 ^ 36 },
+    pub ghost narrow_second: { second < 2 ^ 36 },
+}
 
-/// The two words side by side, the first in the high half.
-pub(crate) fn join(a: u64, b: u64) -> u128
-    ensures value { result ≡ paired a b }
-    ensures narrow { result < 2 ^ 72 }
-{
-    (((a % WORD_LIMIT) as u128) << 36) + (b % WORD_LIMIT) as u128
+impl WordPair {
+    ghost use Rattle.shifts.specs.WordPair.{words_of};
+
+    /// The low 36 bits of each of two numbers.
+    pub(crate) fn low(a: u64, b: u64) -> Self
+        ensures { words_of result ≡ (a % 2 ^ 36, b % 2 ^ 36) }
+    {
+        WordPair {
+            first: a % WORD_LIMIT,
+            second: b % WORD_LIMIT,
+        }
+    }
+}
+
+/// The two words side by side.
+impl From<WordPair> for Bits<72> {
+    ghost from_gives = { λ words bits. bits.number ≡ paired words.first words.second };
+
+    fn from(words: WordPair) -> Bits<72> {
+        Bits {
+            number: (u128::from(words.first) << 36) + u128::from(words.second),
+        }
+    }
 }
 
 /// The two words of what stands side by side.
-pub(crate) fn split(pair: u128) -> (u64, u64)
-    requires { pair < 2 ^ 72 }
-    ensures { result ≡ halves pair }
-{
-    ((pair >> 36) as u64, (pair % WORD_LIMIT as u128) as u64)
+impl From<Bits<72>> for WordPair {
+    ghost use Rattle.shifts.specs.WordPair.{words_of};
+
+    ghost from_gives = { λ bits words. words_of words ≡ halves bits.number };
+
+    fn from(bits: Bits<72>) -> WordPair {
+        WordPair {
+            first: (bits.number >> 36) as u64,
+            second: (bits.number % u128::from(WORD_LIMIT)) as u64,
+        }
+    }
 }

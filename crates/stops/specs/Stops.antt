@@ -1,6 +1,6 @@
--- The stops and the states: each with its number, and each stop with the word of the reply, the state after it
--- and whether its step counts.
-use Rattle.std.specs.Prelude.{ℕ, Bool, true, false}
+-- The stops and the states: each with its number, and each stop with the word of the reply, its name in plain words,
+-- the state after it and whether its step counts.
+use Rattle.std.specs.Prelude.{ℕ, Bool, true, false, List, codes}
 use Rattle.stops.specs.declared.state.State.{State}
 use Rattle.stops.specs.declared.state.State.TheVariants.{Empty, Ready, Waiting, Ended}
 use Rattle.stops.specs.declared.stop.Stop.{Stop}
@@ -29,6 +29,16 @@ stop_word (IllegalAddress a) = a
 stop_word AddressWords = 0
 stop_word ExecutedWords = 0
 stop_word PushdownOverflow = 0
+
+-- as it is shown to a person
+abbrev pub stop_text : Stop → List ℕ
+stop_text StepsDone = codes "all steps done"
+stop_text (MonitorCall w) = codes "monitor call"
+stop_text (NotInstalled w) = codes "code not installed"
+stop_text (IllegalAddress a) = codes "illegal address"
+stop_text AddressWords = codes "too many address words"
+stop_text ExecutedWords = codes "too many executed words"
+stop_text PushdownOverflow = codes "pushdown overflow"
 
 abbrev pub state_after : Stop → State
 state_after StepsDone = Ready

@@ -14,11 +14,11 @@ pub enum State {
     Ended = 3,
 }
 
-impl State {
-    /// The number by which the state is known outside.
-    pub fn number(self) -> u64
-        ensures { result ≡ state_number self }
-    {
-        self as u64
+/// The number by which the state is known outside.
+impl From<State> for u64 {
+    ghost from_gives = { λ state n. n ≡ state_number state };
+
+    fn from(state: State) -> u64 {
+        state as u64
     }
 }

@@ -1,7 +1,8 @@
-ghost use Rattle.stops.specs.Stops.{stop_number, stop_word, state_after, step_counts};
-ghost use Rattle.std.specs.Prelude.{◌≡◌};
+ghost use Rattle.stops.specs.Stops.{stop_number, stop_word, stop_text, state_after, step_counts};
+ghost use Rattle.std.specs.Prelude.{◌≡◌, Some};
 
 use crate::state::State;
+use std::fmt;
 
 /// Why a run ended.
 #[derive(Clone, Copy, PartialEq, Eq, Debug)]
@@ -23,7 +24,8 @@ pub enum Stop {
 }
 
 impl Stop {
-    /// The number by which the stop is known outside.
+    /// The number by which the stop is known outside. A method, since `word` is a number of the stop too, and a conversion
+    /// would not say which of them it gives.
     pub fn number(self) -> u64
         ensures { result ≡ stop_number self }
     {
@@ -73,5 +75,21 @@ impl Stop {
             | Stop::PushdownOverflow => true,
             Stop::IllegalAddress(_) | Stop::AddressWords | Stop::ExecutedWords => false,
         }
+    }
+}
+
+impl fmt::Display for Stop {
+    ghost output = { λ stop. Some (stop_text stop) };
+
+    fn fmt<W: fmt::Write>(&self, f: &mut fmt::Formatter<W>) -> fmt::Result {
+        f.write_str(match self {
+            Stop::StepsDone => "all steps done",
+            Stop::MonitorCall(_) => "monitor call",
+            Stop::NotInstalled(_) => "code not installed",
+            Stop::IllegalAddress(_) => "illegal address",
+            Stop::AddressWords => "too many address words",
+            Stop::ExecutedWords => "too many executed words",
+            Stop::PushdownOverflow => "pushdown overflow",
+        })
     }
 }

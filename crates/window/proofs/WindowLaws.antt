@@ -3,6 +3,10 @@ use Rattle.std.proofs.Common.{◌≡◌, ℕ, ◌+◌, ◌-◌, ◌<◌, ◌≤�
 use Rattle.memory.specs.Access.{Reads, Writes}
 use Rattle.std.proofs.lemmas.List.{take_all, drop_all, length-drop}
 use Rattle.std.proofs.lemmas.Bool.{cases_lt}
+use Rattle.window.proofs.Apart.{unseen}
+use Rattle.window.specs.Window.{window_rest, Unseen}
+use Rattle.window.specs.declared.span.Span.{Span}
+use Rattle.std.specs.Borrow.{GName}
 use Rattle.window.specs.Windows.{window_of, words_before, words_after, length-window, get_d_window, set-window, before-set, after-set}
 use Rattle.words.specs.declared.refusal.Refusal.{Refusal}
 
@@ -24,6 +28,17 @@ module _ (f n : ℕ) (ws : List ℕ) (a : ℕ) (l : a < n) where
     after-window (Ok u) (k, h, e) = ap (words_after f n) e ∙ after-set f n ws a w l
     after-window (Err x) (e, z, h) = ap (words_after f n) e
 
+-- a write in a window changes nothing else that it stands on, and no window that lies apart sees it
+module _ (s : Span) (ws vs : List ℕ) (a w : ℕ) (r : Result (Unit {0}) Refusal) (l : a < s.count) (did : Writes ws (s.from + a) w vs r) where
+  pub keeps-window : {R : Type 0} → (core : GName) (x y : R) → y ≡ x → window_rest core s vs y ≡ window_rest core s ws x
+  keeps-window core x y e =
+      let low = before-window s.from s.count ws a l w vs r did in
+      let high = after-window s.from s.count ws a l w vs r did in
+      cc
+
+  pub unseen-window : Unseen s ws vs
+  unseen-window = unseen s ws vs (before-window s.from s.count ws a l w vs r did) (after-window s.from s.count ws a l w vs r did)
+
 -- a core has no address from 262,144 on, so a window that is cut there sees what the whole one would
 pub window-cut : (f n : ℕ) (ws : List ℕ) → length ws ≤ 262144 → window_of (min f 262144) (min n (262144 - min f 262144)) ws ≡ window_of f n ws
 unfolding window_of
@@ -42,3 +57,5 @@ window-cut f n ws h =
     let e : min f 262144 ≡ 262144 = omega arith in
     take_all (min n (262144 - min f 262144)) (drop (min f 262144) ws) (omega (arith, length-drop (min f 262144) ws)) ∙ drop_all (min f 262144) ws (omega arith) ∙ sym (drop_all f ws (omega arith)) ∙ sym (take_all n (drop f ws) (omega (arith, length-drop f ws))))
     (cases_lt f 262144)
+
+pub ruleset windows = (length-window, reads-window, writes-window, keeps-window, unseen-window)

@@ -1,11 +1,8 @@
 -- A window on a list of words: what it sees, and what lies before and after it.
 use Rattle.std.specs.Prelude.{◌≡◌, ℕ, ◌+◌, ◌-◌, ◌<◌, ◌≤◌, min, ◌⊎◌, List, length, take, drop, slice_index, slice_set}
-use Rattle.std.proofs.lemmas.List.{length-take, length-drop, get_or-take, get_or-drop, get_or_past, drop-set-add, take-set-le, drop-set-lt}
-use Rattle.std.proofs.lemmas.Bool.{cases_lt}
-use Rattle.words.specs.Word.{Narrow}
-use Rattle.std.specs.Borrow.{GName}
+use Rattle.std.proofs.lemmas.List.{length-take, length-drop, get_or-take, get_or-drop, drop-set-add, take-set-le, drop-set-lt}
 use Rattle.std.proofs.Math.Seq.{take-set-lt}
-use Rattle.std.proofs.Common.{⊎_elim, ◌∙◌, arith}
+use Rattle.std.proofs.Common.{◌∙◌, arith}
 use Rattle.std.proofs.Math.Path.{ap}
 
 -- the words from f on, n of them as far as the list reaches
@@ -18,18 +15,9 @@ words_before f ws = take f ws
 unfoldable pub words_after : ℕ → ℕ → List ℕ → List ℕ
 words_after f n ws = drop (f + n) ws
 
--- what else a window stands on: which core is lent to it, where it lies, the words before and after it, and what else
--- that core stands on
-abbrev pub window_rest : {R : Type 0} → GName → ℕ → ℕ → List ℕ → R → GName × ℕ × ℕ × List ℕ × List ℕ × R
-window_rest core f n ws r = (core, f, n, words_before f ws, words_after f n ws, r)
-
 -- n addresses from f on and m from g on have none in common
 abbrev pub Apart : ℕ → ℕ → ℕ → ℕ → Type 0
 Apart f n g m = (f + n ≤ g) ⊎ (g + m ≤ f)
-
--- what came to pass in the window of n words from f on, when ws became vs, is seen in no window that lies apart from it
-abbrev pub Unseen : ℕ → ℕ → List ℕ → List ℕ → Type 0
-Unseen f n ws vs = (g m : ℕ) → Apart f n g m → window_of g m vs ≡ window_of g m ws
 
 module _ (f n : ℕ) (ws : List ℕ) where
   pub length-window : length (window_of f n ws) ≡ min n (length ws - f)
@@ -51,13 +39,3 @@ module _ (f n : ℕ) (ws : List ℕ) where
   pub after-set : (a w : ℕ) → a < n → words_after f n (slice_set ws (f + a) w) ≡ words_after f n ws
   unfolding words_after
   after-set a w l = drop-set-lt (f + n) ws (f + a) w (omega arith)
-
-  pub short-window : length ws ≤ 262144 → length (window_of f n ws) ≤ 262144
-  short-window h = omega (arith, length-window)
-
-  pub narrow-window : Narrow ws → Narrow (window_of f n ws)
-  narrow-window h a =
-      ⊎_elim
-      (λ (l : a < n). omega (arith, get_d_window a l, h (f + a)))
-      (λ (l : n ≤ a). omega (arith, get_or_past (window_of f n ws) a 0 (omega (arith, length-window))))
-      (cases_lt a n)

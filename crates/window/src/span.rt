@@ -6,7 +6,7 @@ ghost use Rattle.window.specs.Windows.{window_of};
 use memory::CORE_LIMIT;
 
 /// So many addresses from one on. No core has an address from 262,144 on, and a span ends there.
-#[derive(Clone, Copy)]
+#[derive(Clone, Copy, PartialEq, Eq, Debug)]
 pub struct Span {
     pub from: u64,
     pub count: u64,

@@ -2,12 +2,12 @@
 
 ghost use Rattle.std.specs.Prelude.{◌≡◌, ℕ, List};
 ghost use Rattle.memory.specs.Access.{Writes};
-ghost use Rattle.window.specs.Windows.{window_of, window_rest, Unseen, short-window, narrow-window};
+ghost use Rattle.window.specs.Window.{window_words, window_rest, Unseen, short-window, narrow-window};
 ghost use Rattle.std.specs.Borrow.{GName};
 
 use crate::span::Span;
 use memory::Core;
-use words::{Refusal, WORD_LIMIT};
+use words::Refusal;
 
 /// The words of a lent core that lie in a span. What of the span is past the core's end is not there.
 #[derive(Drop)]
@@ -27,16 +27,17 @@ impl<'a, C: Core> Window<'a, C> {
     }
 }
 
+#[tactic(auto, using(crate::proofs::WindowLaws::windows))]
 impl<'a, C: Core> Core for Window<'a, C> {
-    ghost words = { λ c. window_of c.span.from c.span.count (C.Core.words c.core.now) };
+    ghost words = { λ c. window_words c.span (C.Core.words c.core.now) };
 
     ghost Rest = { GName × ℕ × ℕ × List ℕ × List ℕ × C.Core.Rest };
 
-    ghost rest = { λ c. window_rest c.core.ghost_name c.span.from c.span.count (C.Core.words c.core.now) (C.Core.rest c.core.now) };
+    ghost rest = { λ c. window_rest c.core.ghost_name c.span (C.Core.words c.core.now) (C.Core.rest c.core.now) };
 
-    ghost short = { λ c. short-window c.span.from c.span.count (C.Core.words c.core.now) (C.Core.short c.core.now) };
+    ghost short = { λ c. short-window c.span (C.Core.words c.core.now) (C.Core.short c.core.now) };
 
-    ghost narrow = { λ c. narrow-window c.span.from c.span.count (C.Core.words c.core.now) (C.Core.narrow c.core.now) };
+    ghost narrow = { λ c. narrow-window c.span (C.Core.words c.core.now) (C.Core.narrow c.core.now) };
 
     fn len(&self) -> u64 {
         self.core
@@ -54,16 +55,13 @@ impl<'a, C: Core> Core for Window<'a, C> {
 
     /// A window that lies apart on the same core does not see the write.
     fn write(&mut self, a: u64, w: u64) -> Result<(), Refusal>
-        ensures does { Writes (window_of self.old.span.from self.old.span.count (C.Core.words self.old.core.now)) a w (window_of self.new.span.from self.new.span.count (C.Core.words self.new.core.now)) result }
-        ensures keeps { window_rest self.new.core.ghost_name self.new.span.from self.new.span.count (C.Core.words self.new.core.now) (C.Core.rest self.new.core.now) ≡ window_rest self.old.core.ghost_name self.old.span.from self.old.span.count (C.Core.words self.old.core.now) (C.Core.rest self.old.core.now) }
-        ensures unseen { Unseen self.old.span.from self.old.span.count (C.Core.words self.old.core.now) (C.Core.words self.new.core.now) }
+        ensures does { Writes (window_words self.old.span (C.Core.words self.old.core.now)) a w
+            (window_words self.new.span (C.Core.words self.new.core.now)) result }
+        ensures keeps { window_rest self.new.core.ghost_name self.new.span (C.Core.words self.new.core.now) (C.Core.rest self.new.core.now)
+            ≡ window_rest self.old.core.ghost_name self.old.span (C.Core.words self.old.core.now) (C.Core.rest self.old.core.now) }
+        ensures unseen { Unseen self.old.span (C.Core.words self.old.core.now) (C.Core.words self.new.core.now) }
     {
-        if w >= WORD_LIMIT {
-            return Err(Refusal::NotAWord);
-        }
-        if a >= self.span.count {
-            return Err(Refusal::AddressOutsideCore);
-        }
+        self.check_write(a, w)?;
         self.core.write(self.span.from + a, w)
     }
 }
@@ -72,6 +70,7 @@ impl<'a, C: Core> Core for Window<'a, C> {
 mod tests {
     use super::*;
     use memory::PlainCore;
+    use words::WORD_LIMIT;
 
     // Words 1 and 2 of four, and what of a span lies past the core's end is not there.
     #[test]

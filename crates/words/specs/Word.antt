@@ -1,5 +1,6 @@
 -- A word is a whole number below 2^36.
-use Rattle.std.specs.Prelude.{◌≡◌, ℕ, ◌^◌, ◌<◌, ◌≤◌, Bool, true, ◌&&◌, ltb, List, [], ◌∷◌, length, nat_lt, slice_index, refl}
+use Rattle.std.specs.Prelude.{◌≡◌, ℕ, ◌^◌, ◌<◌, ◌≤◌, Bool, true, ltb, List, length, nat_lt, slice_index, refl}
+use Rattle.std.specs.List.{list_all}
 use Rattle.std.proofs.ByRecursion.{All-get_or, Decides-by_and}
 use Rattle.std.proofs.lemmas.List.{get_or_past}
 use Rattle.std.proofs.lemmas.Bool.{cases_lt}
@@ -8,8 +9,7 @@ use Rattle.std.proofs.Common.{⊎_elim, arith}
 
 -- whether every number is one
 abbrev pub are_words : List ℕ → Bool
-are_words [] = true
-are_words (n ∷ ns) = nat_lt n (2 ^ 36) && are_words ns
+are_words = list_all (λ n. nat_lt n (2 ^ 36))
 
 -- each number of the list is a word; past its end stands 0, which is one too
 abbrev pub Narrow : List ℕ → Type 0

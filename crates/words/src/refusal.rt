@@ -33,11 +33,11 @@ pub enum Refusal {
     AddressOutsideCore = 13,
 }
 
-impl Refusal {
-    /// The number by which the refusal is known outside.
-    pub fn number(self) -> u64
-        ensures { result ≡ number_of self }
-    {
-        self as u64
+/// The number by which the refusal is known outside.
+impl From<Refusal> for u64 {
+    ghost from_gives = { λ refusal n. n ≡ number_of refusal };
+
+    fn from(refusal: Refusal) -> u64 {
+        refusal as u64
     }
 }

@@ -1,23 +1,17 @@
-use Rattle.decks.specs.Storing.{agreeing}
-use Rattle.decks.proofs.Agrees.{agreeing-more, agreeing-end, agreeing-all, agreeing-only}
+use Rattle.std.proofs.Common.{◌≡◌, ℕ, sym, ◌∙◌, rules, tests}
+use Rattle.std.proofs.lemmas.Iterator.{YieldsList-from_slice}
+use Rattle.std.proofs.lemmas.Iterator.Consumers.{YieldsList-from_enumerate, YieldsList-from_filter, count_from_yields_List}
+use Rattle.std.proofs.lemmas.List.Sums.{length-filter}
+use Rattle.std.specs.List.{enumerate_from}
+use Rattle.decks.specs.Storing.{agreeing, holds_at}
+use Rattle.decks.proofs.Agrees.{count_by-holds_at, agreeing-all, agreeing-only}
 use Rattle.decks.proofs.storing.count_equal.Goals as goal
-use Rattle.decks.proofs.storing.count_equal.Goals.{then-holds, else-holds}
-use Rattle.std.proofs.Common.{◌≡◌, true, false, sym, ◌∙◌, arith}
-
-pub loop-a-preserved : goal.loop-a-preserved
-loop-a-preserved g c =
-    let xs = g.C.Core.words c.args.core.now in
-    let ws = c.args.words.now in
-    let a = c.loop-a.a in
-    elim c.if-holds.branch [
-      | then-holds w ↦ let more = agreeing-more xs ws a true w.if-holds.ensures (omega arith) in (omega (arith, w.equal-is), omega (arith, w.equal-is))
-      | else-holds w ↦ let more = agreeing-more xs ws a false w.if-holds.ensures (omega arith) in (omega (arith, w.equal-is), omega (arith, w.equal-is))
-    ]
 
 pub returns : goal.returns
 returns g c =
     let xs = g.C.Core.words c.args.core.now in
     let ws = c.args.words.now in
-    let none = agreeing-end xs ws c.loop-a.a (omega arith) in
-    let value : c.loop-a.equal ≡ agreeing xs ws = omega arith in
+    let held = λ (p : ℕ × ℕ). holds_at xs p.0 p.1 in
+    let found = count_from_yields_List c.filter.result _ c.count.ensures.ran (YieldsList-from_filter _ held (YieldsList-from_enumerate (YieldsList-from_slice ws cc) (cc)) c.filter.ensures.closure (λ x b q k. search (rules, tests))) in
+    let value : c.count.result ≡ agreeing xs ws = found ∙ length-filter held (enumerate_from 0 ws) ∙ count_by-holds_at xs ws in
     record { value = value; all = λ e. value ∙ agreeing-all xs ws e; only = λ e. agreeing-only xs ws (sym value ∙ e) }

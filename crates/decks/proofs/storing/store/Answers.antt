@@ -1,36 +1,22 @@
-use Rattle.std.proofs.Common.{◌≡◌, ◌<◌, true, length, sym, ◌∙◌, arith}
-use Rattle.words.specs.Word.{are_words, word_at}
-use Rattle.decks.proofs.Puts.{put-length, put-more, put_all}
+use Rattle.std.proofs.Common.{◌≡◌, ℕ, ◌+◌, ◌<◌, List, [], ◌∷◌, ◌++◌, length, get_or, take, drop, set, sym, ap, ◌∙◌, arith}
+use Rattle.std.proofs.lemmas.List.{append_assoc, drop_more, length-take-le, set_at, take_more}
 use Rattle.decks.proofs.storing.store.Goals as goal
 
--- no write is refused
-pub returns-in_err-write : goal.returns-in_err-write
-returns-in_err-write g c =
-    let ws = c.args.words.now in
-    let a = c.loop-a.a in
-    let all : are_words ws ≡ true = sym c.all_words.ensures ∙ c.if-not-all_words.false in
-    let l : a < length ws = omega arith in
-    let long = put-length ws (g.C.Core.words c.args.core.now) (g.C.Core.words c.loop-a.core) a c.loop-a.invariant.0 (omega arith) (omega arith) in
-    let past = (c.in_err-write.ensures.does.2 (word_at ws a all l)).0 in
-    absurd (omega arith)
+-- the next word goes to its address
+set-put : (ws old : List ℕ) (i : ℕ) → i < length ws → i < length old → set (take i ws ++ drop i old) i (get_or ws i 0) ≡ take (i + 1) ws ++ drop (i + 1) old
+set-put ws old i l m =
+    let w = get_or ws i 0 in
+    ap (λ t. set (take i ws ++ t) i w) (drop_more old i 0 m)
+    ∙ set_at (take i ws) (get_or old i 0) (drop (i + 1) old) w i (length-take-le i ws (omega arith))
+    ∙ sym (append_assoc (take i ws) (w ∷ []) (drop (i + 1) old))
+    ∙ ap (λ t. t ++ drop (i + 1) old) (sym (take_more ws i 0 l))
 
 pub loop-a-preserved : goal.loop-a-preserved
 loop-a-preserved g c =
-    let old = g.C.Core.words c.args.core.now in
-    let next = g.C.Core.words c.write.new.self in
+    let ws = c.args.words.now in
+    let a = c.loop-a.a in
+    let put = set-put ws (g.C.Core.words c.args.core.now) a (omega arith) (omega arith) in
     let word = c.in_ok-write.ensures.does.2 in (
-      put-more c.args.words.now old (g.C.Core.words c.loop-a.core) c.loop-a.a c.loop-a.invariant.0 next word (omega arith) (omega arith),
+      word ∙ ap (λ t. set t a (get_or ws a 0)) c.loop-a.invariant.0 ∙ put,
       c.write.ensures.keeps ∙ c.loop-a.invariant.1,
     )
-
-pub returns : goal.returns
-returns g c =
-    let old = g.C.Core.words c.args.core.now in
-    record {
-      does = (
-        sym c.all_words.ensures ∙ c.if-not-all_words.false,
-        omega arith,
-        put_all c.args.words.now old (g.C.Core.words c.loop-a.core) c.loop-a.a c.loop-a.invariant.0 (omega arith),
-      );
-      keeps = c.loop-a.invariant.1;
-    }

@@ -1,5 +1,6 @@
 use Rattle.instructions.proofs.results.cleared.Goals as goal
-use Rattle.std.proofs.lemmas.Nat.{and_le_l}
+use Rattle.std.proofs.Common.{arith}
+use Rattle.std.proofs.lemmas.Nat.{and-not, and_comm}
 
-pub overflow_sub-result : goal.overflow_sub-result
-overflow_sub-result c = and_le_l c.args.flags c.args.which
+pub returns : goal.returns
+returns c = omega (arith, and-not 64, and_comm)

@@ -14,7 +14,7 @@ loop-i-preserved c =
     let ns = c.args.given.now in
     let width : 8 * i + 8 - 8 * i ≡ 8 = omega arith in
     let in' : i < length ns = omega arith in
-    rw width (number_more i ns c.args.bytes.now c.loop-i.bytes c.copy_from_slice.new.self in' c.loop-i.invariant (c.copy_from_slice.ensures.after ∙ c.to_be_bytes-eight.ensures))
+    rw width (number_more i ns c.args.bytes.now c.loop-i.bytes c.copy_from_slice.new.self in' c.loop-i.invariant (c.copy_from_slice.ensures.after ∙ c.to_be_bytes.ensures))
 
 pub returns : goal.returns
 returns c =

@@ -1,23 +1,20 @@
-use Rattle.logic.proofs.MaskLaws.{changed-met}
+use Rattle.logic.proofs.MaskLaws.{change_law}
 use Rattle.logic.proofs.masks.changed.Goals as goal
-use Rattle.words.specs.Bits.{word}
 use Rattle.logic.specs.Masks.{changed_by}
-use Rattle.logic.specs.declared.masks.Change.TheVariants.{Unchanged, Zeros, Complement, Ones}
-use lib.Bits.{bit_and}
-use Rattle.std.proofs.Common.{refl, ap}
+use Rattle.std.proofs.Common.{rules}
 
-pub returns-in-Unchanged : goal.returns-in-Unchanged
+pub returns-in-Unchanged-clause-changes : goal.returns-in-Unchanged-clause-changes
 unfolding changed_by
-returns-in-Unchanged c = changed-met c.args.ac c.args.mask c.args.change Unchanged c.in-Unchanged.is refl
+returns-in-Unchanged-clause-changes c = change_law c.args.change c.args.ac c.args.mask _ (search rules)
 
-pub returns-in-Zeros : goal.returns-in-Zeros
+pub returns-in-Zeros-clause-changes : goal.returns-in-Zeros-clause-changes
 unfolding changed_by
-returns-in-Zeros c = changed-met c.args.ac c.args.mask c.args.change Zeros c.in-Zeros.is (ap (bit_and (word c.args.ac)) c.complement.ensures)
+returns-in-Zeros-clause-changes c = change_law c.args.change c.args.ac c.args.mask _ (search rules)
 
-pub returns-in-Complement : goal.returns-in-Complement
+pub returns-in-Complement-clause-changes : goal.returns-in-Complement-clause-changes
 unfolding changed_by
-returns-in-Complement c = changed-met c.args.ac c.args.mask c.args.change Complement c.in-Complement.is refl
+returns-in-Complement-clause-changes c = change_law c.args.change c.args.ac c.args.mask _ (search rules)
 
-pub returns-in-Ones : goal.returns-in-Ones
+pub returns-in-Ones-clause-changes : goal.returns-in-Ones-clause-changes
 unfolding changed_by
-returns-in-Ones c = changed-met c.args.ac c.args.mask c.args.change Ones c.in-Ones.is refl
+returns-in-Ones-clause-changes c = change_law c.args.change c.args.ac c.args.mask _ (search rules)

@@ -1,14 +1,14 @@
-use Rattle.std.proofs.Common.{◌≡◌, ◌-◌, ◌≤◌}
+use Rattle.std.proofs.Common.{◌≡◌, ◌-◌}
 use Rattle.machine.proofs.stepping.run.Given as goal
-use Rattle.machine.specs.Steps.{state, later, run_of}
+use Rattle.machine.specs.Machine.{state}
+use Rattle.machine.specs.Steps.{later, run_of}
 use Rattle.machine.specs.User.{Kept}
 
 abbrev pub invariant-loop-done : goal.invariant-loop-done
 invariant-loop-done g l =
-    (l.done ≤ l.most)
-    × (later l.done (run_of (l.most - l.done) (state l.place (g.C.Core.words l.core))) ≡ run_of l.most (state l.initial.place (g.C.Core.words l.initial.core)))
-    × Kept l.initial.place.space (g.C.Core.words l.initial.core) l.place.space (g.C.Core.words l.core)
-    × (g.C.Core.rest l.core ≡ g.C.Core.rest l.initial.core)
-
-abbrev pub decreases-loop-done : goal.decreases-loop-done
-decreases-loop-done g l = l.most - l.done
+    record {
+      does : later l.done (run_of (l.most - l.done) (state l.place (g.C.Core.words l.core)))
+          ≡ run_of l.most (state l.initial.place (g.C.Core.words l.initial.core));
+      kept : Kept l.initial.place.space (g.C.Core.words l.initial.core) l.place.space (g.C.Core.words l.core);
+      rest : g.C.Core.rest l.core ≡ g.C.Core.rest l.initial.core;
+    }

@@ -1,42 +1,34 @@
-use Rattle.std.proofs.Common.{◌≡◌, ◌+◌, ◌-◌, ◌*◌, ◌/◌, ◌<◌, length, sym, refl, ap, ◌∙◌, arith}
-use Rattle.packed.proofs.Pairwise.{nine-more, nines-all}
-use Rattle.packed.proofs.RoundTrips.{unpack-pack}
+use Rattle.std.proofs.Common.{◌≡◌, ℕ, ◌*◌, ◌/◌, ◌%◌, ◌<◌, List, length, get_or, sym, ap, ◌∙◌, arith}
+use Rattle.packed.proofs.Places.{unpack-put_word}
+use Rattle.packed.proofs.RoundTrips.{pack-unpack}
 use Rattle.packed.proofs.packing.pack.Goals as goal
 use Rattle.packed.specs.Layout.{pack, unpack}
+use Rattle.packed.specs.Words.{length-unpack}
+use Rattle.std.proofs.lemmas.List.{ext_get_or}
+use Rattle.std.proofs.lemmas.List.Edits.{fill_by_more}
 use Rattle.words.specs.Word.{narrow-words}
 
-pub loop-i-init : goal.loop-i-init
-unfolding pack
-loop-i-init c = refl
-
-pub bounds-words-i : goal.bounds-words-i
-bounds-words-i c = omega arith
-
-pub bounds-words-i-in-loop-i : goal.bounds-words-i-in-loop-i
-bounds-words-i-in-loop-i c = omega arith
-
-pub pair_bytes-nine-requires : goal.pair_bytes-nine-requires
-pair_bytes-nine-requires c =
-    let narrow = narrow-words c.args.words.now (sym c.all_words.ensures ∙ c.if-not-all_words.false) in
-    (narrow (2 * c.loop-i.i), narrow (2 * c.loop-i.i + 1))
-
-pub loop-i-preserved : goal.loop-i-preserved
-loop-i-preserved c =
-    let i = c.loop-i.i in
+pub loop-k-preserved : goal.loop-k-preserved
+loop-k-preserved c =
+    let bs = c.loop-k.bytes in
+    let k = c.loop-k.k in
     let ws = c.args.words.now in
-    let nine : 9 * i + 9 - 9 * i ≡ 9 = omega arith in
-    let in' : 2 * i + 1 < length ws = omega arith in
-    rw nine (nine-more i ws c.args.bytes.now c.loop-i.bytes c.copy_from_slice.new.self in' c.loop-i.invariant (c.copy_from_slice.ensures.after ∙ c.pair_bytes-nine.ensures))
+    let in' : k < 2 * (length bs / 9) = omega arith in
+    let narrow = narrow-words ws (sym c.all_words.ensures ∙ c.if-not-all_words.false) in
+    let put = ap unpack c.put_word.ensures ∙ unpack-put_word bs k in' (get_or ws k 0) (narrow k) in
+    record {
+      so_far = λ j l. ap (λ (t : List ℕ). get_or t j 0) put ∙ fill_by_more (λ i. get_or ws i 0) (unpack bs) k 0 (omega (arith, length-unpack bs)) c.loop-k.invariant.so_far j l;
+      octets = λ j. (c.type_inv.bytes j).fits;
+    }
 
 pub returns : goal.returns
 returns c =
     let ws = c.args.words.now in
-    let bs = c.args.bytes.now in
+    let bs = c.loop-k.bytes in
     let words = sym c.all_words.ensures ∙ c.if-not-all_words.false in
-    let even = c.if-words-ne0.false in
-    let long : length bs ≡ length ws / 2 * 9 = omega arith in
-    let all = nines-all c.loop-i.i ws bs c.loop-i.bytes (omega arith) (omega arith) c.loop-i.invariant in
+    let whole : length bs % 9 ≡ 0 = omega arith in
+    let all : unpack bs ≡ ws = ext_get_or 0 (unpack bs) ws (omega (arith, length-unpack bs)) (λ j l. c.loop-k.invariant.so_far j (omega (arith, length-unpack bs))) in
     record {
-      packs = (even, long, words, all);
-      unpacks_to_the_same = ap unpack all ∙ unpack-pack ws (narrow-words ws words) even;
+      packs = (c.if-words-ne0.false, c.if-bytes-words.false, words, sym (pack-unpack bs c.loop-k.invariant.octets whole) ∙ ap pack all);
+      unpacks_to_the_same = all;
     }

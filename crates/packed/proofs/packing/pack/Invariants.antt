@@ -1,6 +1,7 @@
-use Rattle.std.proofs.Common.{◌≡◌, ◌*◌, ◌++◌, take, drop}
+use Rattle.std.proofs.Common.{◌≡◌, ℕ, ◌<◌, get_or}
+use Rattle.packed.proofs.RoundTrips.{Octets}
 use Rattle.packed.proofs.packing.pack.Given as goal
-use Rattle.packed.specs.Layout.{pack}
+use Rattle.packed.specs.Layout.{unpack}
 
-abbrev pub invariant-loop-i : goal.invariant-loop-i
-invariant-loop-i l = l.bytes ≡ pack (take (2 * l.i) l.words) ++ drop (9 * l.i) l.initial.bytes
+abbrev pub invariant-loop-k : goal.invariant-loop-k
+invariant-loop-k l = record { so_far : (j : ℕ) → j < l.k → get_or (unpack l.bytes) j 0 ≡ get_or l.words j 0; octets : Octets l.bytes }

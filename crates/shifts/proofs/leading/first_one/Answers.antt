@@ -1,26 +1,29 @@
-use Rattle.std.proofs.Common.{◌≡◌, ℕ, ◌+◌, ◌-◌, ◌%◌, ◌^◌, ◌<◌, sym, subst, arith}
-use Rattle.shifts.proofs.Examples.{leading-so}
-use Rattle.shifts.proofs.Zeros.{of_none, of_some, stands, wider}
+use Rattle.std.proofs.Common.{◌≡◌, ◌+◌, ◌-◌, ◌%◌, ◌^◌, refl, arith}
+use Rattle.shifts.proofs.Zeros.{first-stands, of_some, wider}
 use Rattle.shifts.proofs.leading.first_one.Goals as goal
-use Rattle.shifts.specs.Leading.{zeros_ahead, FirstOneAt}
+use Rattle.shifts.specs.Leading.{zeros_ahead}
+use Rattle.shifts.specs.Specimens.{LeadingSpecimens}
+use lib.Count.{count_leading_zeros}
 
-counted : (c : goal.After-from) → c.from.result ≡ 28 + zeros_ahead c.args.w
-counted c =
-    let p : 0 < c.args.w % 2 ^ 36 = omega arith in
-    omega (arith, of_some c.args.w p, wider (c.args.w % 2 ^ 36) p (omega arith))
+-- a u64 has 28 zeros more
+counted : (c : goal.After-from) → c.from.result ≡ 28 + count_leading_zeros 36 (c.args.w % 2 ^ 36)
+counted c = omega (arith, wider (c.args.w % 2 ^ 36) (omega arith))
+
+specimens : LeadingSpecimens
+unfolding zeros_ahead count_leading_zeros
+specimens = (refl, refl, refl)
 
 pub overflow_sub-result : goal.overflow_sub-result
 overflow_sub-result c = omega (arith, counted c)
 
-pub returns-then-word-eq0 : goal.returns-then-word-eq0
-returns-then-word-eq0 c = record { value = sym (of_none c.args.w (omega arith)); within = omega arith; first = λ p. absurd (omega arith); specimens = leading-so }
+pub returns-then-word-eq0-clause-specimens : goal.returns-then-word-eq0-clause-specimens
+returns-then-word-eq0-clause-specimens c = specimens
 
-pub returns-else-word-eq0 : goal.returns-else-word-eq0
-returns-else-word-eq0 c =
-    let v : c.from.result - 28 ≡ zeros_ahead c.args.w = omega (arith, counted c) in
-    record {
-      value = v;
-      within = subst (λ (r : ℕ). r < 36) (sym v) (stands c.args.w).0;
-      first = subst (FirstOneAt c.args.w) (sym v) (stands c.args.w).1;
-      specimens = leading-so;
-    }
+pub returns-else-word-eq0-clause-value : goal.returns-else-word-eq0-clause-value
+returns-else-word-eq0-clause-value c = omega (arith, counted c, of_some c.args.w (omega arith))
+
+pub returns-else-word-eq0-clause-first : goal.returns-else-word-eq0-clause-first
+returns-else-word-eq0-clause-first c p = first-stands (c.args.w % 2 ^ 36) (c.from.result - 28) p (omega arith) (omega (arith, counted c))
+
+pub returns-else-word-eq0-clause-specimens : goal.returns-else-word-eq0-clause-specimens
+returns-else-word-eq0-clause-specimens c = specimens

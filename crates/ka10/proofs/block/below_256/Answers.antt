@@ -1,6 +1,0 @@
-use Rattle.ka10.proofs.block.below_256.Goals as goal
-use Rattle.std.proofs.lemmas.List.{get_or_past}
-use Rattle.std.proofs.Common.{arith}
-
-pub returns-else-bytes-gt0 : goal.returns-else-bytes-gt0
-returns-else-bytes-gt0 c = λ k. omega (arith, get_or_past c.args.bytes.now k 0 (omega arith))
