@@ -15,14 +15,14 @@
  * p[3] and the high half of p[4], and the second word is the low half of p[4], p[5], p[6], p[7]
  * and p[8]; the words 0 and 777777,,777777 are 00 00 00 00 0F FF FF FF FF in hexadecimal.
  *
- * The length of the core in words is 2 * floor(core_len / 9), but at most 262,144. Bytes short of
- * a whole pair, and what lies past 262,144 words, are left over: they have no meaning and are
- * never written.
+ * The length of the core in words is 2 * floor(core_len / 9), but at most 262,144. A last piece of
+ * fewer than nine bytes, and all bytes after those of 262,144 words, are left over: they mean
+ * nothing and are never written.
  *
  * The program's block is the core words from 1,024 * base to below 1,024 * (base + blocks). Its
  * own addresses, the user addresses, have 18 bits. User addresses 0 to 15 are the sixteen
- * accumulators, which stand in the record. Another user address a is core address
- * 1,024 * base + a, and is legal exactly when a is below 1,024 * blocks. So the lowest sixteen
+ * accumulators, which stand in the record. From 16 up, user address a stands for the core's word
+ * 1,024 * base + a; it is legal as long as it is less than 1,024 * blocks. So the lowest sixteen
  * words of the block are never touched, and no byte that belongs to a word outside user addresses
  * 16 to 1,024 * blocks - 1 ever changes.
  *
@@ -57,15 +57,15 @@
  *   2     code not installed: 100o-177o, 220o-227o and     the call
  *         234o-237o
  *   3     illegal user address                             that address
- *   4     a 65th address word in one calculation of an     0
- *         effective address
- *   5     a 65th executed word in one step                 0
+ *   4     an effective address needs more than 64          0
+ *         address words
+ *   5     a step has more than 64 words to execute         0
  *   6     pushdown overflow: after PUSH or PUSHJ the left  0
  *         half of the pointer is 0, or after POP or POPJ
  *         it is 777777o
  *
- * The call is bits 0-12 of the word executed, zeros in bits 13-17, and the effective address in
- * bits 18-35. The step that ends with stop 1, 2 or 6 is done and counted: PC is past it (or where
+ * The call is a word: the executed word's bits 0-12, then five zeros, then the effective address
+ * in bits 18-35. The step that ends with stop 1, 2 or 6 is done and counted: PC is past it (or where
  * it jumped), and a further call goes on from there. The step that ends with stop 3, 4 or 5 is
  * not counted, and PC and flags are as they were before it. What it wrote before it failed stays:
  * the call that a code 001o-037o stored at user address 40o, and the words that a BLT had moved.
@@ -84,8 +84,8 @@
  *   1   the length of the core in words is not a multiple of 1,024 from 1,024 up
  *   3   blocks is 0, or base + blocks is above the core's length divided by 1,024
  *   6   record_len is not 160, reply_len is not 24, or the record has an accumulator of 2^36 or
- *       more, a PC of 2^18 or more, flags without User or with a bit that is not listed, a count
- *       above the allowance, or an allowance above 1,000,000,000,000
+ *       more, a PC that is not below 2^18, flags where User is off or a bit is on that is not
+ *       listed, a count above the allowance, or an allowance above 1,000,000,000,000
  *   11  steps is not 1 to 1,000,000
  *   12  count + steps is above the allowance
  *

@@ -1,51 +1,48 @@
 -- The division of magnitudes, with the signs put back, is the division of the signed values that drops the fraction.
-use Rattle.std.proofs.Common.{◌≡◌, ℕ, zero, suc, ◌+◌, ◌-◌, ◌*◌, ◌/◌, ◌%◌, ◌^◌, ◌<◌, ◌≤◌, Bool, true, false, cond, ◌&&◌, eqb, leb, ◌⊎◌, ℤ, pos, ◌+ℤ◌, ◌*ℤ◌, neg_ℤ, nat_abs, Some, None, Option, sym, refl, ap, ◌∙◌, subst, inl, inr, ⊎_elim, mul-zero, zero-mul, arith}
+use Rattle.std.proofs.Common.{◌≡◌, ℕ, zero, suc, ◌-◌, ◌*◌, ◌/◌, ◌%◌, ◌^◌, ◌<◌, ◌≤◌, Bool, true, false, cond, ◌&&◌, eqb, leb, ◌⊎◌, ℤ, pos, ◌+ℤ◌, ◌*ℤ◌, neg_ℤ, nat_abs, to_z, of_z, w64, Some, None, Option, sym, refl, ap, ap₂, ◌∙◌, subst, inl, inr, ⊎_elim, arith}
 use Rattle.arithmetic.proofs.SignedLaws.{signed_reads}
 use Rattle.arithmetic.specs.Division.{magnitude_of, signed_word, no_divide, division_of, Refused, Divided, DivisionLaw}
 use Rattle.words.specs.Signed.{is_negative, signed}
-use Rattle.std.proofs.lemmas.Nat.{div-add-mod', div_below, mod_below}
+use Rattle.std.proofs.lemmas.Int.{quot-rem}
+use Rattle.std.specs.Int.Signed.{quot_z, rem_z}
+use Rattle.std.proofs.lemmas.Nat.{div_below, mod_below}
 use Rattle.std.proofs.lemmas.Bool.{leb-true, leb-false, eqb-true, and_parts, or_cases, cases_eq}
 use Rattle.std.proofs.lemmas.Bool.Decides.{nat_tests}
 use Rattle.arithmetic.specs.declared.division.Division.{Division}
 use borrow.Author.Differences.{ints}
 use lib.Signed.{non_neg}
 use mathlib.Core.Bool.{xor}
-use native.Mathlib.Nat.{mod-le}
+use native.Mathlib.Nat.{mod-le, zero-div, zero-mod}
 
 -- the integer of a sign and a magnitude
 abbrev oriented : Bool → ℕ → ℤ
 oriented negative m = cond negative (neg_ℤ (pos m)) (pos m)
 
--- ---- signs and products
-neg-pos : (m n : ℕ) → neg_ℤ (pos m) *ℤ pos n ≡ neg_ℤ (pos (m * n))
-neg-pos zero n = rw zero-mul
-neg-pos (suc m) n = refl
-
-pos-neg : (m n : ℕ) → pos m *ℤ neg_ℤ (pos n) ≡ neg_ℤ (pos (m * n))
-pos-neg m zero = rw mul-zero
-pos-neg m (suc n) = refl
-
-neg-neg : (m n : ℕ) → neg_ℤ (pos m) *ℤ neg_ℤ (pos n) ≡ pos (m * n)
-neg-neg zero zero = refl
-neg-neg zero (suc n) = rw zero-mul
-neg-neg (suc m) zero = rw mul-zero
-neg-neg (suc m) (suc n) = refl
-
-neg_sum : (m n s : ℕ) → m + n ≡ s → neg_ℤ (pos s) ≡ neg_ℤ (pos m) +ℤ neg_ℤ (pos n)
-neg_sum m n s e = omega (arith, ints)
-
--- whole ÷ part, at each pair of signs
-whole_is : (a b : Bool) (m n : ℕ) → oriented a m ≡ oriented (xor a b) (m / n) *ℤ oriented b n +ℤ oriented a (m % n)
-unfolding xor
-whole_is false false m n = ap pos (sym (div-add-mod' m n))
-whole_is false true m n = ap pos (sym (div-add-mod' m n)) ∙ ap (λ z. z +ℤ pos (m % n)) (sym (neg-neg (m / n) n))
-whole_is true false m n = neg_sum (m / n * n) (m % n) m (div-add-mod' m n) ∙ ap (λ z. z +ℤ neg_ℤ (pos (m % n))) (sym (neg-pos (m / n) n))
-whole_is true true m n = neg_sum (m / n * n) (m % n) m (div-add-mod' m n) ∙ ap (λ z. z +ℤ neg_ℤ (pos (m % n))) (sym (pos-neg (m / n) n))
-
 abs_is : (a : Bool) (m : ℕ) → nat_abs (oriented a m) ≡ m
 abs_is false m = refl
 abs_is true zero = refl
 abs_is true (suc m) = refl
+
+-- Rust's quotient and remainder, at each pair of signs
+quot_is : (a b : Bool) (m n : ℕ) → 0 < n → quot_z (oriented a m) (oriented b n) ≡ oriented (xor a b) (m / n)
+unfolding xor
+quot_is false false m n p = refl
+quot_is false true m zero p = absurd (omega arith)
+quot_is false true m (suc n) p = refl
+quot_is true false zero n p = rw zero-div
+quot_is true false (suc m) n p = refl
+quot_is true true m zero p = absurd (omega arith)
+quot_is true true zero (suc n) p = rw zero-div
+quot_is true true (suc m) (suc n) p = refl
+
+rem_is : (a b : Bool) (m n : ℕ) → rem_z (oriented a m) (oriented b n) ≡ oriented a (m % n)
+rem_is false b m n = ap (λ k. pos (m % k)) (abs_is b n)
+rem_is true b zero n = ap pos (zero-mod (nat_abs (oriented b n))) ∙ sym (ap (oriented true) (zero-mod n))
+rem_is true b (suc m) n = ap (λ k. neg_ℤ (pos (suc m % k))) (abs_is b n)
+
+whole_is : (a b : Bool) (m n : ℕ) → 0 < n → oriented a m ≡ oriented (xor a b) (m / n) *ℤ oriented b n +ℤ oriented a (m % n)
+whole_is a b m n p =
+    sym (quot-rem (oriented a m) (oriented b n)) ∙ ap₂ (λ (q r : ℤ). q *ℤ oriented b n +ℤ r) (quot_is a b m n p) (rem_is a b m n)
 
 sign-is : (a : Bool) (m r : ℕ) → r ≤ m → (oriented a r ≡ pos 0) ⊎ (non_neg (oriented a r) ≡ non_neg (oriented a m))
 sign-is false m r h = inr refl
@@ -74,6 +71,12 @@ signed-word-is false m h = omega (arith, ints, signed_reads m)
 
 magnitude-is : (w : ℕ) → magnitude_of w ≡ nat_abs (signed w)
 magnitude-is w = sym (abs_is (is_negative w) (magnitude_of w)) ∙ ap nat_abs (sym (signed_is w))
+
+pub magnitude_tells : (w : ℕ) (z : ℤ) → z ≡ signed w → nat_abs z ≡ magnitude_of w
+magnitude_tells w z e = ap nat_abs e ∙ sym (magnitude-is w)
+
+pub magnitude_most : (w : ℕ) (z : ℤ) (m : ℕ) → z ≡ signed w → m ≡ nat_abs (to_z w64 (of_z w64 z)) → m ≤ 2 ^ 35
+magnitude_most w z m e f = omega (arith, ints, e, f, signed_reads w)
 
 -- ---- which divisions are refused
 no_sign : (b : Bool) → oriented b 0 ≡ pos 0
@@ -141,7 +144,7 @@ divided x y p =
     let er = signed-word-is a (m % n) (remainder-below m n (magnitude-most y) p) in
     record {
       allowed = allowed x y p;
-      whole = rw (ex, ey, eq, er) (whole_is a b m n);
+      whole = rw (ex, ey, eq, er) (whole_is a b m n p.0);
       small = rw (ey, er, abs_is a (m % n), abs_is b n) (mod_below m n p.0);
       sign = rw (ex, er) (sign-is a m (m % n) (mod-le m n));
     }

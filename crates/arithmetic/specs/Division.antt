@@ -1,4 +1,4 @@
--- Signed division of words. The quotient drops its fraction toward zero, and the remainder has the dividend's sign.
+-- Signed division of words. It rounds toward zero, so the remainder takes its sign from the dividend.
 use Rattle.std.specs.Prelude.{◌≡◌, ℕ, ◌-◌, ◌/◌, ◌%◌, ◌^◌, ◌<◌, Bool, cond, ◌&&◌, ◌||◌, ◌⊎◌, ℤ, pos, ◌+ℤ◌, ◌*ℤ◌, neg_ℤ, IfSome, Some, None, Option, MatchOption, ◌==◌, unsigned_abs}
 use Rattle.words.specs.Signed.{is_negative, signed}
 use Rattle.arithmetic.specs.declared.division.Division.{Division}

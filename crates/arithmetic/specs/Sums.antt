@@ -1,4 +1,4 @@
--- Sums of words of 36 bits, with the carries out of bit 0 and out of bit 1.
+-- Sums of words of 36 bits, with the carry that leaves bit 0 and the one that leaves bit 1.
 use Rattle.std.specs.Prelude.{◌≡◌, ℕ, ◌+◌, ◌%◌, ◌^◌, Bool, cond, ◌⊎◌, ℤ, pos, ◌+ℤ◌, ◌-ℤ◌, neg_ℤ, ◌≤ℤ◌, ◌<ℤ◌, Decides, nat_le}
 use Rattle.arithmetic.specs.Signed.{Representable}
 use Rattle.words.specs.Signed.{signed}

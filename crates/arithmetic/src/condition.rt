@@ -1,7 +1,7 @@
 ghost use Rattle.arithmetic.specs.Condition.{biased_of, holds_of, condition_of, ComparisonLaw, CodeLaw};
 ghost use Rattle.std.specs.Prelude.{◌≡◌};
 
-use words::{SIGN_BIT, WORD_LIMIT};
+use crate::signed::signed;
 
 /// What a comparison asks of two signed words.
 #[derive(Clone, Copy, PartialEq, Eq, Debug)]
@@ -17,13 +17,13 @@ pub enum Condition {
 }
 
 /// Whether the condition holds between the signed values of two words.
-#[tactic(auto, using(crate::proofs::ConditionLaws::comparison_law), unfolding(crate::specs::Condition::holds_of))]
+#[tactic(auto, using(crate::proofs::ConditionLaws::condition_laws), unfolding(crate::specs::Condition::holds_of))]
 pub fn holds(condition: Condition, x: u64, y: u64) -> bool
     ensures value { result ≡ holds_of condition x y }
     ensures law { ComparisonLaw condition x y result }
 {
-    let left = biased(x);
-    let right = biased(y);
+    let left = signed(x);
+    let right = signed(y);
     match condition {
         Condition::Never => false,
         Condition::Less => left < right,
@@ -56,11 +56,4 @@ impl From<u64> for Condition {
             _ => Condition::Greater,
         }
     }
-}
-
-/// The signed value plus 2^35: words in their signed order are in the plain order of these numbers.
-fn biased(word: u64) -> u64
-    ensures { result ≡ biased_of word }
-{
-    (word % WORD_LIMIT + SIGN_BIT) % WORD_LIMIT
 }

@@ -2,6 +2,7 @@ ghost use Rattle.std.specs.Prelude.{◌≡◌, ◌^◌, ◌<◌, ◌≤◌};
 ghost use Rattle.arithmetic.specs.Division.{division_of, magnitude_of, no_divide, signed_word, DivisionLaw, NarrowDivision};
 ghost use Rattle.words.specs.Signed.{is_negative};
 
+use crate::signed::signed;
 use words::{SIGN_BIT, WORD_LIMIT, is_negative};
 
 /// What a division gives: two words, signed.
@@ -11,8 +12,7 @@ pub struct Division {
     pub remainder: u64,
 }
 
-/// The signed division of two words. The quotient drops its fraction toward zero, and the remainder has the
-/// dividend's sign.
+/// The signed division of two words. It rounds toward zero, so the remainder takes its sign from the dividend.
 ///
 /// There is none by 0. Nor is there one of −2^35 by 1 or −1: the processor divides magnitudes, and the magnitude of
 /// that quotient has no place in the 35 bits beside the sign.
@@ -21,6 +21,7 @@ pub fn divide(dividend: u64, divisor: u64) -> Option<Division>
     ensures narrow { NarrowDivision result }
     ensures law { DivisionLaw dividend divisor result }
 {
+    // by magnitudes and signs, and not by the `/` of i64: the refusals are the processor's, which are said of magnitudes
     let whole = magnitude(dividend);
     let part = magnitude(divisor);
     if no_divide(whole, part) {
@@ -42,16 +43,12 @@ fn no_divide(whole: u64, part: u64) -> bool
 }
 
 /// The signed value without its sign: at most 2^35.
+#[tactic(auto, using(crate::proofs::DivisionLaws::magnitude_tells))]
 fn magnitude(word: u64) -> u64
     ensures value { result ≡ magnitude_of word }
     ensures bound { result ≤ 2 ^ 35 }
 {
-    let low = word % WORD_LIMIT;
-    if is_negative(word) {
-        WORD_LIMIT - low
-    } else {
-        low
-    }
+    signed(word).unsigned_abs()
 }
 
 /// The word of a sign and a magnitude.

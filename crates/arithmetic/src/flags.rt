@@ -21,7 +21,7 @@ pub fn flags_after(flags: u64, carry0: bool, carry1: bool) -> u64
 }
 
 /// The flags with one more raised, if it is to be.
-fn raise(set: bool, flag: u64, flags: u64) -> u64
+pub fn raise(set: bool, flag: u64, flags: u64) -> u64
     ensures { result ≡ raised set flag flags }
 {
     if set { flags | flag } else { flags }

@@ -6,11 +6,12 @@
 mod condition;
 mod division;
 mod flags;
+mod signed;
 mod sums;
 #[cfg(test)]
 mod tests;
 
 pub use condition::{Condition, holds};
 pub use division::{Division, divide};
-pub use flags::{CARRY_0, CARRY_1, OVERFLOW, flags_after};
+pub use flags::{CARRY_0, CARRY_1, OVERFLOW, flags_after, raise};
 pub use sums::{add, decrement, increment, negate, subtract};

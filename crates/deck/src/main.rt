@@ -25,6 +25,7 @@ fn run_deck(
     blocks: u64,
     deck: &[u64],
 ) -> anyhow::Result<()> {
+    // A program needs a block at least, and no core has more than 256.
     if blocks == 0 || blocks > 256 {
         return Ok(());
     }

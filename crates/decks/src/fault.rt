@@ -26,7 +26,7 @@ pub struct DeckError {
     pub fault: DeckFault,
 }
 
-// Written out, since a derived `Display` does not state its words.
+// Both are written out, since a derived `Display` does not state its words.
 impl fmt::Display for DeckFault {
     ghost output = { λ fault. Some (fault_words fault) };
 

@@ -15,6 +15,7 @@ pub fn read_deck(heap: Global, text: &[u8]) -> Result<Vec<u64>, DeckError>
     ensures back { ReadsBack text.now result }
 {
     let mut reader = Reader::new(heap);
+    // Counted here, and the newline goes to the reader all the same, since it ends a word.
     let mut line = 1u64;
     for &c in text {
         reader.step(c).map_err(|fault| DeckError { line, fault })?;

@@ -8,7 +8,7 @@ use Rattle.operations.specs.declared.operation.Mode.{Mode}
 
 -- SETZ 400 to SETOB 477: the code's bits 3 to 6 are the truth table, its last two bits the mode
 abbrev pub boolean_effect_of : ℕ → Mode → Inputs → Effect
-boolean_effect_of table mode given = by_mode mode given.e (boolean_of table (operand_of mode given) given.ac) given.status
+boolean_effect_of table mode given = by_mode mode (boolean_of table (operand_of mode given) given.ac) given given.status
 
 -- SETZ, SETA, SETCA and SETO do not look at the operand
 abbrev pub without_operand : ℕ → Bool

@@ -7,7 +7,6 @@ use Rattle.arithmetic.specs.declared.condition.Condition.{Condition}
 use Rattle.instructions.specs.Results.{after_sum, effect, jump_if, skip_if, to_a, unless_zero, wordless}
 use Rattle.operations.specs.declared.effect.Effect.{Effect}
 use Rattle.operations.specs.declared.effect.Inputs.{Inputs}
-use Rattle.operations.specs.declared.effect.Status.{Status}
 
 -- CAI 300 to CAIG 307: skips by A and the word 0,,E
 abbrev pub cai_of : Condition → Inputs → Effect
@@ -26,16 +25,16 @@ abbrev pub skip_of : Condition → Inputs → Effect
 skip_of condition given = effect None (unless_zero given.field given.operand) None (skip_if (holds_of condition given.operand 0) given.status)
 
 -- a count of A, which goes on at E by the result and 0
-abbrev pub count_and_jump : Condition → ℕ × Bool × Bool → ℕ → Status → Effect
-count_and_jump condition r e s = to_a r.0 (jump_if (holds_of condition r.0 0) e (after_sum r s))
+abbrev pub count_and_jump : Condition → ℕ × Bool × Bool → Inputs → Effect
+count_and_jump condition r given = to_a r.0 (jump_if (holds_of condition r.0 0) given.e (after_sum r given.status))
 
 -- AOJ 340 to AOJG 347: A plus 1
 abbrev pub aoj_of : Condition → Inputs → Effect
-aoj_of condition given = count_and_jump condition (add_words given.ac 1 false) given.e given.status
+aoj_of condition given = count_and_jump condition (add_words given.ac 1 false) given
 
 -- SOJ 360 to SOJG 367: A less 1
 abbrev pub soj_of : Condition → Inputs → Effect
-soj_of condition given = count_and_jump condition (add_words given.ac (2 ^ 36 - 1) false) given.e given.status
+soj_of condition given = count_and_jump condition (add_words given.ac (2 ^ 36 - 1) false) given
 
 -- a count of the word at E, which skips by the result and 0; the result goes to A too, unless that is accumulator 0
 abbrev pub count_and_skip : Condition → ℕ × Bool × Bool → Inputs → Effect

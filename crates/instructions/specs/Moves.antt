@@ -28,11 +28,11 @@ read_by_move_mode Memory e = None
 read_by_move_mode Own e = Some e
 
 -- where it is moved to
-abbrev pub by_move_mode : MoveMode → Inputs → ℕ → Status → Effect
-by_move_mode Basic given w s = to_a w s
-by_move_mode Immediate given w s = to_a w s
-by_move_mode Memory given w s = to_memory given.e w s
-by_move_mode Own given w s = effect (Some (given.e, w)) (unless_zero given.field w) None s
+abbrev pub by_move_mode : MoveMode → ℕ → Inputs → Status → Effect
+by_move_mode Basic w given s = to_a w s
+by_move_mode Immediate w given s = to_a w s
+by_move_mode Memory w given s = to_memory given.e w s
+by_move_mode Own w given s = effect (Some (given.e, w)) (unless_zero given.field w) None s
 
 -- the negative of a word, whose carries raise flags
 abbrev pub negated_word : ℕ × Bool × Bool → Status → ℕ × Status
@@ -55,7 +55,7 @@ formed Magnitude x s = cond (is_negative x) (negated x s) (x, s)
 abbrev pub move_of : Form → MoveMode → Inputs → Effect
 move_of form mode given =
     let r = formed form (source_of mode given) given.status in
-    by_move_mode mode given r.0 r.1
+    by_move_mode mode r.0 given r.1
 
 -- EXCH 250: A and the word at E change places
 abbrev pub exch_of : Inputs → Effect

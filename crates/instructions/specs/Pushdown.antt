@@ -15,13 +15,17 @@ use Rattle.stops.specs.declared.stop.Stop.TheVariants.{PushdownOverflow}
 abbrev pub stop_at : ℕ → ℕ → Option Stop
 stop_at end pointer = cond (left pointer == end) (Some PushdownOverflow) None
 
+-- the pointer, already moved, goes to A, and the run stops if its count has come to its end
+abbrev pub pointed : ℕ → Option (ℕ × ℕ) → ℕ → Status → Effect
+pointed end m pointer s = record { store = m; a = Some pointer; a1 = None; status = s; stop = stop_at end pointer }
+
 -- the word goes to where the pointer, already moved up, says
 abbrev pub pushed : ℕ → ℕ → Status → Effect
-pushed pointer w s = record { store = Some (right pointer, w); a = Some pointer; a1 = None; status = s; stop = stop_at 0 pointer }
+pushed pointer w s = pointed 0 (Some (right pointer, w)) pointer s
 
 -- the pointer, already moved down, goes to A
 abbrev pub popped : Option (ℕ × ℕ) → ℕ → Status → Effect
-popped m pointer s = record { store = m; a = Some pointer; a1 = None; status = s; stop = stop_at 0o777777 pointer }
+popped m pointer s = pointed 0o777777 m pointer s
 
 -- PUSHJ 260: the PC word onto the list, and on at E
 abbrev pub pushj_of : Inputs → Effect

@@ -46,11 +46,11 @@ read_by_mode Memory e = Some e
 read_by_mode Both e = Some e
 
 -- where an arithmetic or Boolean instruction puts its result
-abbrev pub by_mode : Mode → ℕ → ℕ → Status → Effect
-by_mode Basic e w s = to_a w s
-by_mode Immediate e w s = to_a w s
-by_mode Memory e w s = to_memory e w s
-by_mode Both e w s = to_both e w s
+abbrev pub by_mode : Mode → ℕ → Inputs → Status → Effect
+by_mode Basic w given s = to_a w s
+by_mode Immediate w given s = to_a w s
+by_mode Memory w given s = to_memory given.e w s
+by_mode Both w given s = to_both given.e w s
 
 -- the status with other flags
 abbrev pub flagged : ℕ → Status → Status

@@ -15,8 +15,8 @@ pub(crate) fn boolean_effect(table: u64, mode: Mode, given: Inputs) -> Effect
 {
     by_mode(
         mode,
-        given.e,
         boolean(table, operand_of(mode, given), given.ac),
+        given,
         given.status,
     )
 }

@@ -1,7 +1,8 @@
 //! The comparisons, and the counts that end in one.
 //!
 //! Each instruction is one line under its own name: it says what is compared or counted, and its clause names its
-//! definition. What two of them share is in `count_and_jump` and `count_and_skip`.
+//! definition. What two of them share is in `count_and_jump` and `count_and_skip`. The condition is a field of the
+//! instruction, and so stands beside what the instruction is given.
 
 ghost use Rattle.std.specs.Prelude.{◌≡◌, ◌^◌, ◌<◌};
 ghost use Rattle.instructions.specs.Compares.{aoj_of, aos_of, cai_of, cam_of, count_and_jump, count_and_skip, jump_of, skip_of, soj_of, sos_of};
@@ -9,7 +10,7 @@ ghost use Rattle.instructions.specs.Narrow.{NarrowEffect};
 
 use crate::results::{after_sum, jump_if, skip_if, to_a, unless_zero, wordless};
 use arithmetic::{Condition, decrement, holds, increment};
-use operations::{Effect, Inputs, Status};
+use operations::{Effect, Inputs};
 
 /// CAI: skips by the accumulator and the word 0,,E.
 pub(crate) fn cai_effect(condition: Condition, given: Inputs) -> Effect
@@ -47,14 +48,12 @@ pub(crate) fn skip_effect(condition: Condition, given: Inputs) -> Effect
 }
 
 /// A count of the accumulator, which jumps by the result and 0.
-fn count_and_jump(condition: Condition, sum: (u64, bool, bool), e: u64, status: Status) -> Effect
-    ensures value { result ≡ count_and_jump condition sum e status }
+fn count_and_jump(condition: Condition, sum: (u64, bool, bool), given: Inputs) -> Effect
+    ensures value { result ≡ count_and_jump condition sum given }
     ensures narrow { sum.0 < 2 ^ 36 → NarrowEffect result }
 {
-    to_a(
-        sum.0,
-        jump_if(holds(condition, sum.0, 0), e, after_sum(sum, status)),
-    )
+    let after = after_sum(sum, given.status);
+    to_a(sum.0, jump_if(holds(condition, sum.0, 0), given.e, after))
 }
 
 /// AOJ: the accumulator plus 1.
@@ -62,7 +61,7 @@ pub(crate) fn aoj_effect(condition: Condition, given: Inputs) -> Effect
     ensures value { result ≡ aoj_of condition given }
     ensures narrow { NarrowEffect result }
 {
-    count_and_jump(condition, increment(given.ac), given.e, given.status)
+    count_and_jump(condition, increment(given.ac), given)
 }
 
 /// SOJ: the accumulator less 1.
@@ -70,7 +69,7 @@ pub(crate) fn soj_effect(condition: Condition, given: Inputs) -> Effect
     ensures value { result ≡ soj_of condition given }
     ensures narrow { NarrowEffect result }
 {
-    count_and_jump(condition, decrement(given.ac), given.e, given.status)
+    count_and_jump(condition, decrement(given.ac), given)
 }
 
 /// A count of the word at E, which skips by the result and 0.

@@ -6,17 +6,28 @@ ghost use Rattle.instructions.specs.Jumps.{aobjn_of, aobjp_of, clear_and_jump, f
 ghost use Rattle.instructions.specs.Narrow.{NarrowEffect};
 ghost use Rattle.std.specs.Prelude.{◌≡◌};
 
+use crate::division::NO_DIVIDE;
 use crate::pointers::pointer_up;
 use crate::results::{cleared, flagged, jump_if, jumped, to_a, wordless};
+use crate::subroutines::BYTE_INTERRUPT;
+use arithmetic::{CARRY_0, CARRY_1, OVERFLOW};
 use logic::left;
 use operations::{Effect, Inputs, Status, USER};
 use words::is_negative;
 
-/// The flags that a program may restore: Overflow, Carry 0, Carry 1, Floating Overflow, Byte Interrupt, Floating
-/// Underflow and No Divide.
-const RESTORABLE: u64 = 0o760140;
-/// What the lowest bit of JFCL's accumulator field selects: Floating Overflow.
-const FLOATING_OVERFLOW: u64 = 1 << 14;
+/// The flag Floating Overflow. The lowest bit of JFCL's accumulator field selects it, so that the field times this flag
+/// is all the flags that the field selects.
+const FLOATING_OVERFLOW: u64 = 0o040000;
+/// The flag Floating Underflow.
+const FLOATING_UNDERFLOW: u64 = 0o000100;
+/// The flags that a program may restore.
+const RESTORABLE: u64 = OVERFLOW
+    | CARRY_0
+    | CARRY_1
+    | FLOATING_OVERFLOW
+    | BYTE_INTERRUPT
+    | FLOATING_UNDERFLOW
+    | NO_DIVIDE;
 
 /// AOBJP: 1 added to both halves of the accumulator, and a jump if it is then not negative.
 pub(crate) fn aobjp_effect(given: Inputs) -> Effect

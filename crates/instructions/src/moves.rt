@@ -36,22 +36,16 @@ fn formed(form: Form, x: u64, status: Status) -> (u64, Status)
     ensures narrow { x < 2 ^ 36 → result.0 < 2 ^ 36 }
 {
     match form {
-        Form::Full => (x, status),
         Form::Swapped => (swap(x), status),
         Form::Negated => negated(x, status),
-        Form::Magnitude => {
-            if is_negative(x) {
-                negated(x, status)
-            } else {
-                (x, status)
-            }
-        }
+        Form::Magnitude if is_negative(x) => negated(x, status),
+        Form::Full | Form::Magnitude => (x, status),
     }
 }
 
 /// A moved word to where its mode puts it.
-fn by_move_mode(mode: MoveMode, given: Inputs, word: u64, status: Status) -> Effect
-    ensures value { result ≡ by_move_mode mode given word status }
+fn by_move_mode(mode: MoveMode, word: u64, given: Inputs, status: Status) -> Effect
+    ensures value { result ≡ by_move_mode mode word given status }
     ensures narrow { word < 2 ^ 36 → NarrowEffect result }
 {
     match mode {
@@ -71,7 +65,7 @@ pub(crate) fn move_effect(form: Form, mode: MoveMode, given: Inputs) -> Effect
     ensures narrow { given.ac < 2 ^ 36 → given.operand < 2 ^ 36 → given.e < 2 ^ 18 → NarrowEffect result }
 {
     let (word, after) = formed(form, source_of(mode, given), given.status);
-    by_move_mode(mode, given, word, after)
+    by_move_mode(mode, word, given, after)
 }
 
 /// EXCH: the accumulator and the word at E change places.

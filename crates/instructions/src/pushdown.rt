@@ -2,7 +2,7 @@
 
 ghost use Rattle.std.specs.Prelude.{◌≡◌, ◌^◌, ◌<◌, IfSome};
 ghost use Rattle.instructions.specs.Narrow.{NarrowEffect};
-ghost use Rattle.instructions.specs.Pushdown.{pop_of, popj_of, popped, push_of, pushed, pushj_of, stop_at};
+ghost use Rattle.instructions.specs.Pushdown.{pointed, pop_of, popj_of, popped, push_of, pushed, pushj_of, stop_at};
 
 use crate::pointers::{pointer_down, pointer_up};
 use crate::results::{jumped, wordless};
@@ -10,11 +10,12 @@ use crate::subroutines::{called, pc_word};
 use logic::{left, right};
 use operations::{Effect, Inputs, Status};
 use stops::Stop;
+use words::HALF_LIMIT;
 
 /// The count with which a list is full, after a push.
 const FULL: u64 = 0;
 /// The count with which a list is empty, after a pop.
-const EMPTY: u64 = 0o777777;
+const EMPTY: u64 = HALF_LIMIT - 1;
 
 /// The stop where the count of a pointer has come to its end.
 fn stop_at(end: u64, pointer: u64) -> Option<Stop>
@@ -23,17 +24,25 @@ fn stop_at(end: u64, pointer: u64) -> Option<Stop>
     (left(pointer) == end).then_some(Stop::PushdownOverflow)
 }
 
+/// A pointer, already moved, to A, and the store that goes with it; the run stops where the count has come to its end.
+fn pointed(end: u64, store: Option<(u64, u64)>, pointer: u64, status: Status) -> Effect
+    ensures value { result ≡ pointed end store pointer status }
+    ensures narrow { IfSome store (λ s. s.1 < 2 ^ 36) → pointer < 2 ^ 36 → NarrowEffect result }
+{
+    Effect {
+        store,
+        a: Some(pointer),
+        stop: stop_at(end, pointer),
+        ..wordless(status)
+    }
+}
+
 /// A word to where a pointer, already moved up, says.
 fn pushed(pointer: u64, word: u64, status: Status) -> Effect
     ensures value { result ≡ pushed pointer word status }
     ensures narrow { pointer < 2 ^ 36 → word < 2 ^ 36 → NarrowEffect result }
 {
-    Effect {
-        store: Some((right(pointer), word)),
-        a: Some(pointer),
-        stop: stop_at(FULL, pointer),
-        ..wordless(status)
-    }
+    pointed(FULL, Some((right(pointer), word)), pointer, status)
 }
 
 /// PUSHJ: the PC word onto the list, and on at E.
@@ -61,12 +70,7 @@ fn popped(store: Option<(u64, u64)>, pointer: u64, status: Status) -> Effect
     ensures value { result ≡ popped store pointer status }
     ensures narrow { IfSome store (λ s. s.1 < 2 ^ 36) → pointer < 2 ^ 36 → NarrowEffect result }
 {
-    Effect {
-        store,
-        a: Some(pointer),
-        stop: stop_at(EMPTY, pointer),
-        ..wordless(status)
-    }
+    pointed(EMPTY, store, pointer, status)
 }
 
 /// POP: the last word of the list to E.

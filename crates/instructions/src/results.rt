@@ -1,4 +1,7 @@
 //! What the effects of the instructions are made of: where a result goes, and where the program goes on.
+//!
+//! The functions from `Status` to `Status` and the makers of effects are functions and no methods: both types are of
+//! `operations`, which knows no instruction.
 
 ghost use Rattle.std.specs.Prelude.{◌≡◌, ◌^◌, ◌<◌};
 ghost use Rattle.instructions.specs.Narrow.{NarrowEffect};
@@ -62,15 +65,15 @@ pub(crate) fn operand_of(mode: Mode, given: Inputs) -> u64
 }
 
 /// The result of an arithmetic or Boolean instruction to where its mode puts it.
-pub(crate) fn by_mode(mode: Mode, e: u64, word: u64, status: Status) -> Effect
-    ensures value { result ≡ by_mode mode e word status }
+pub(crate) fn by_mode(mode: Mode, word: u64, given: Inputs, status: Status) -> Effect
+    ensures value { result ≡ by_mode mode word given status }
     ensures narrow { word < 2 ^ 36 → NarrowEffect result }
 {
     match mode {
         Mode::Basic | Mode::Immediate => to_a(word, status),
-        Mode::Memory => to_memory(e, word, status),
+        Mode::Memory => to_memory(given.e, word, status),
         Mode::Both => Effect {
-            store: Some((e, word)),
+            store: Some((given.e, word)),
             a: Some(word),
             ..wordless(status)
         },
@@ -91,7 +94,7 @@ pub(crate) fn cleared(which: u64, flags: u64) -> u64
     flags & !which
 }
 
-/// The status after a sum with its two carries.
+/// The status after a sum with its two carries. The sum comes as `add` answers it, a tuple.
 pub(crate) fn after_sum(sum: (u64, bool, bool), status: Status) -> Status
     ensures { result ≡ after_sum sum status }
 {

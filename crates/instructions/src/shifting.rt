@@ -6,7 +6,7 @@ ghost use Rattle.shifts.specs.WordPair.{words_and_overflow, words_of};
 ghost use Rattle.instructions.specs.Shifts.{arithmetic_pair_to, arithmetic_to, jffo_of, overflow_if, pair_to, shift_of};
 
 use crate::results::{flagged, jump_if, to_a, wordless};
-use arithmetic::OVERFLOW;
+use arithmetic::{OVERFLOW, raise};
 use operations::{Effect, Inputs, Shift, Status};
 use shifts::{WordPair, ash, ashc, first_one, lsh, lshc, rot, rotc};
 use words::WORD_LIMIT;
@@ -15,14 +15,10 @@ use words::WORD_LIMIT;
 fn overflow_if(lost: bool, status: Status) -> Status
     ensures { result ≡ overflow_if lost status }
 {
-    if lost {
-        flagged(status.flags | OVERFLOW, status)
-    } else {
-        status
-    }
+    flagged(raise(lost, OVERFLOW, status.flags), status)
 }
 
-/// A word that was shifted with its sign, to A.
+/// A word that was shifted with its sign, to A. Word and Overflow come together, as `ash` answers them.
 fn arithmetic_to(shifted: (u64, bool), status: Status) -> Effect
     ensures value { result ≡ arithmetic_to shifted status }
     ensures narrow { shifted.0 < 2 ^ 36 → NarrowEffect result }

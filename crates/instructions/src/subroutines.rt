@@ -9,7 +9,7 @@ use logic::from_halves;
 use operations::{Effect, Inputs, Status};
 
 /// The flag Byte Interrupt. It tells of the instruction that was interrupted, so a called program does not see it.
-const BYTE_INTERRUPT: u64 = 0o020000;
+pub(crate) const BYTE_INTERRUPT: u64 = 0o020000;
 
 /// The PC word: the flags and the address of the next instruction.
 pub(crate) fn pc_word(status: Status) -> u64

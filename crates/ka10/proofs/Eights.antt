@@ -5,6 +5,7 @@ use Rattle.ka10.specs.Records.{record_in, record_of, record_numbers, record_byte
 use Rattle.ka10.specs.declared.records.Record.{Record}
 use Rattle.std.specs.Simd.{first_chunks}
 use borrow.Rule.Slice.PartMut.{put_mid}
+use Rattle.std.proofs.lemmas.Grind.{common_steps}
 use Rattle.std.proofs.lemmas.List.{append_assoc, append-nil, get_or-append_right, drop_all, drop_at, drop-drop, length-take-le, take_all, take_at}
 
 -- what holds of every list shorter than eight, and of eight elements more wherever it holds, holds of every list
@@ -85,11 +86,6 @@ number_more i ns before now next l e f =
 pub numbers-all : (i : ℕ) (ns before now : List ℕ) → length ns ≤ i → length before ≤ 8 * i → now ≡ encoded (take i ns) ++ drop (8 * i) before → now ≡ encoded ns
 numbers-all i ns before now l m e = e ∙ ap (λ (t : List ℕ). encoded (take i ns) ++ t) (drop_all (8 * i) before m) ∙ append-nil (encoded (take i ns)) ∙ ap encoded (take_all i ns l)
 
-pub encoded-append : (ms ns : List ℕ) → encoded (ms ++ ns) ≡ encoded ms ++ encoded ns
-unfolding encoded
-encoded-append [] ns = refl
-encoded-append (m ∷ ms) ns = ap (λ (t : List ℕ). encoded (m ∷ []) ++ t) (encoded-append ms ns)
-
 -- twenty numbers after the first sixteen and then the last four were written
 pub in_turn : (a b : List ℕ) → length a ≡ 16 → put_mid 16 4 (a ++ 0 ∷ 0 ∷ 0 ∷ 0 ∷ []) b ≡ a ++ b
 in_turn a b l = rw (take_at a (0 ∷ 0 ∷ 0 ∷ 0 ∷ []) 16 l, drop_at a (0 ∷ 0 ∷ 0 ∷ 0 ∷ []) 16 l) (ap (λ (t : List ℕ). a ++ t) (append-nil b))
@@ -114,6 +110,9 @@ in-places p sixteen =
     let d = get_or-append_right p.accumulators last 16 18 0 sixteen (omega arith) in
     let e = get_or-append_right p.accumulators last 16 19 0 sixteen (omega arith) in
     rw (a, b, c, d, e)
+
+-- for `grind`
+pub ruleset call_laws = (common_steps, read-as-written)
 
 -- a record is read as it was written
 pub record-as-written : (p : Record) → length p.accumulators ≡ 16 → Wide (record_numbers p) → record_of (record_bytes p) ≡ p

@@ -1,15 +1,16 @@
 -- From the bytes of a block to the core that it lies in.
-use Rattle.std.proofs.Common.{◌≡◌, ℕ, ◌+◌, ◌-◌, ◌*◌, ◌<◌, ◌≤◌, List, ◌++◌, length, get_or, take, drop, sym, ap, ◌∙◌, subst, arith, take-add}
+use Rattle.std.proofs.Common.{◌≡◌, ℕ, ◌+◌, ◌-◌, ◌*◌, ◌≤◌, List, ◌++◌, length, take, drop, sym, ap, ◌∙◌, subst, arith, take-add}
 use Rattle.operations.specs.declared.effect.Status.{Status}
-use Rattle.packed.proofs.Parts.{unpack-take, unpack-drop}
+use Rattle.packed.proofs.Parts.{words-of-part}
 use Rattle.ka10.specs.Calls.{outcome, record_after, Ran}
 use Rattle.ka10.specs.declared.records.Record.{Record}
 use Rattle.machine.specs.Steps.{machine, run_of, Replied, replied}
 use Rattle.machine.specs.User.{user_of}
-use Rattle.memory.specs.Cut.{cut, length_cut}
+use Rattle.memory.specs.Cut.{length_cut}
 use Rattle.packed.specs.Layout.{unpack}
 use Rattle.packed.specs.Words.{packed_words, length-unpack}
-use Rattle.std.proofs.lemmas.List.{drop_at, ext_get_or, get_or-drop, get_or-take, length-append, length-drop, length-take, length-take-le, take-append-le, take_at, take-take}
+use Rattle.std.proofs.lemmas.Grind.{common_steps}
+use Rattle.std.proofs.lemmas.List.{drop_at, drop-drop, drop-take, length-append, length-drop, length-take-le, take-append-le, take_at, take-take}
 use Rattle.std.proofs.lemmas.Slice.{drop-put_mid}
 use borrow.Rule.Slice.PartMut.{put_mid}
 
@@ -18,50 +19,40 @@ abbrev pub block_of : List ℕ → ℕ → ℕ → List ℕ
 block_of core base blocks = take (4608 * blocks) (drop (4608 * base) core)
 
 -- they hold the block's words
-unpack-block : (core : List ℕ) (base blocks : ℕ) → unpack (block_of core base blocks) ≡ take (1024 * blocks) (drop (1024 * base) (unpack core))
-unpack-block core base blocks =
-    let b : 4608 * blocks ≡ 9 * (512 * blocks) = omega arith in
-    let a : 4608 * base ≡ 9 * (512 * base) = omega arith in
+block-words : (core : List ℕ) (base blocks : ℕ) → 1024 * (base + blocks) ≤ length (packed_words core) → packed_words (block_of core base blocks) ≡ take (1024 * blocks) (drop (1024 * base) (packed_words core))
+block-words core base blocks l =
+    let b : 9 * (512 * blocks) ≡ 4608 * blocks = omega arith in
+    let a : 9 * (512 * base) ≡ 4608 * base = omega arith in
     let c : 2 * (512 * blocks) ≡ 1024 * blocks = omega arith in
     let d : 2 * (512 * base) ≡ 1024 * base = omega arith in
-    ap (λ n. unpack (take n (drop (4608 * base) core))) b
-    ∙ unpack-take (drop (4608 * base) core) (512 * blocks)
-    ∙ ap (λ n. take (2 * (512 * blocks)) (unpack (drop n core))) a
-    ∙ ap (take (2 * (512 * blocks))) (unpack-drop core (512 * base))
-    ∙ ap (λ n. take n (drop (2 * (512 * base)) (unpack core))) c
-    ∙ ap (λ n. take (1024 * blocks) (drop n (unpack core))) d
+    rw (← a, ← b, ← c, ← d) (words-of-part core (512 * base) (512 * blocks) (omega arith))
 
--- a part of a list, by way of a longer part that holds it
-same-part : (ws : List ℕ) (m n : ℕ) → m + n ≤ length ws → m + n ≤ 262144 → take (n - 16) (drop (m + 16) (cut ws)) ≡ take (n - 16) (drop 16 (cut (take n (drop m ws))))
-unfolding cut
-same-part ws m n in' top =
-    ext_get_or 0 _ _
-    (omega (arith, length-take (n - 16) (drop (m + 16) (take 262144 ws)), length-drop (m + 16) (take 262144 ws), length-take 262144 ws, length-take (n - 16) (drop 16 (take 262144 (take n (drop m ws)))), length-drop 16 (take 262144 (take n (drop m ws))), length-take 262144 (take n (drop m ws)), length-take n (drop m ws), length-drop m ws))
-    (λ k l.
-    let less : k < n - 16 = omega (arith, length-take (n - 16) (drop (m + 16) (take 262144 ws))) in
-    let e : m + 16 + k ≡ m + (16 + k) = omega arith in
-    get_or-take (n - 16) (drop (m + 16) (take 262144 ws)) k 0 less
-    ∙ get_or-drop (m + 16) (take 262144 ws) k 0
-    ∙ get_or-take 262144 ws (m + 16 + k) 0 (omega arith)
-    ∙ ap (λ i. get_or ws i 0) e
-    ∙ sym (get_or-take (n - 16) (drop 16 (take 262144 (take n (drop m ws)))) k 0 less
-    ∙ get_or-drop 16 (take 262144 (take n (drop m ws))) k 0
-    ∙ get_or-take 262144 (take n (drop m ws)) (16 + k) 0 (omega arith)
-    ∙ get_or-take n (drop m ws) (16 + k) 0 (omega arith)
-    ∙ get_or-drop m ws (16 + k) 0))
+-- what lies past the first sixteen of a part of a list
+past-sixteen : (ws : List ℕ) (m n : ℕ) → 16 ≤ n → take (n - 16) (drop 16 (take n (drop m ws))) ≡ take (n - 16) (drop (m + 16) ws)
+past-sixteen ws m n l =
+    let e : n ≡ 16 + (n - 16) = omega arith in
+    ap (λ k. take (n - 16) (drop 16 (take k (drop m ws)))) e
+    ∙ ap (take (n - 16)) (drop-take 16 (n - 16) (drop m ws) ∙ ap (take (n - 16)) (drop-drop 16 m ws))
+    ∙ take-take (n - 16) (n - 16) (drop (m + 16) ws) (omega arith)
 
 -- a program sees the same words in its block alone
-pub user-in-block : (accumulators core : List ℕ) (base blocks : ℕ) → 1024 * (base + blocks) ≤ length (packed_words core) → user_of accumulators base blocks (packed_words core) ≡ user_of accumulators 0 blocks (packed_words (block_of core base blocks))
+pub user-in-block : (accumulators core : List ℕ) (base blocks : ℕ) → 1 ≤ blocks → 1024 * (base + blocks) ≤ length (packed_words core) → user_of accumulators base blocks (packed_words core) ≡ user_of accumulators 0 blocks (packed_words (block_of core base blocks))
 unfolding user_of
-user-in-block accumulators core base blocks l =
-    let in' : 1024 * base + 1024 * blocks ≤ length (unpack core) = omega (arith, length_cut (unpack core)) in
-    let top : 1024 * base + 1024 * blocks ≤ 262144 = omega (arith, length_cut (unpack core)) in
-    ap (λ (t : List ℕ). accumulators ++ t) (same-part (unpack core) (1024 * base) (1024 * blocks) in' top
-    ∙ ap (λ (t : List ℕ). take (1024 * blocks - 16) (drop 16 (cut t))) (sym (unpack-block core base blocks)))
+user-in-block accumulators core base blocks some l =
+    ap (λ (t : List ℕ). accumulators ++ t)
+    (sym (ap (λ (t : List ℕ). take (1024 * blocks - 16) (drop 16 t)) (block-words core base blocks l)
+    ∙ past-sixteen (packed_words core) (1024 * base) (1024 * blocks) (omega arith)))
+
+-- a word takes half of nine bytes
+pub words-in-bytes : (core : List ℕ) → 9 * length (packed_words core) ≤ 2 * length core
+words-in-bytes core = omega (arith, length_cut (unpack core), length-unpack core)
+
+pub words-at-most : (core : List ℕ) → length (packed_words core) ≤ 262144
+words-at-most core = omega (arith, length_cut (unpack core))
 
 -- a block that has its words in a core has its bytes there
 pub block_within : (core : List ℕ) (base blocks : ℕ) → 1024 * (base + blocks) ≤ length (packed_words core) → (4608 * (base + blocks) ≤ length core) × (base + blocks ≤ 256)
-block_within core base blocks inside = (omega (arith, length_cut (unpack core), length-unpack core), omega (arith, length_cut (unpack core)))
+block_within core base blocks inside = (omega (arith, words-in-bytes core), omega (arith, words-at-most core))
 
 -- a block of a core, and the core after that block has come to hold other bytes
 module _ (core block' : List ℕ) (base blocks : ℕ) (inside : 1024 * (base + blocks) ≤ length (packed_words core)) (some : 1 ≤ blocks) (as_long : length block' ≡ 4608 * blocks) where
@@ -104,13 +95,13 @@ module _ (core block' : List ℕ) (base blocks : ℕ) (inside : 1024 * (base + b
   ran-in-whole p steps left numbers h =
       let status : Status = record { pc = p.pc; flags = p.flags } in
       let out = outcome p 0 blocks steps (block_of core base blocks) in
-      let same : out ≡ outcome p base blocks steps core = ap (λ (u : List ℕ). replied (run_of steps (machine u status))) (sym (user-in-block p.accumulators core base blocks inside)) in
+      let same : out ≡ outcome p base blocks steps core = ap (λ (u : List ℕ). replied (run_of steps (machine u status))) (sym (user-in-block p.accumulators core base blocks some inside)) in
       subst (λ (o : Replied). Ran base blocks p o core core' left numbers) same
       (record {
         program = h.program;
         reply = h.reply;
         user =
-            user-in-block (record_after p out).accumulators core' base blocks inside-then
+            user-in-block (record_after p out).accumulators core' base blocks some inside-then
             ∙ ap (λ (b : List ℕ). user_of (record_after p out).accumulators 0 blocks (packed_words b)) block-then
             ∙ h.user;
         below = below-kept h.below;
@@ -122,3 +113,6 @@ module _ (core block' : List ℕ) (base blocks : ℕ) (inside : 1024 * (base + b
   ran-in-core p steps left numbers n e =
       subst (λ k. Ran 0 blocks p (outcome p 0 blocks steps (take k (drop (4608 * base) core))) (take k (drop (4608 * base) core)) block' left numbers → Ran base blocks p (outcome p base blocks steps core) core (put_mid (4608 * base) k core block') left numbers)
       (sym e) (ran-in-whole p steps left numbers)
+
+-- for `grind`
+pub ruleset block_laws = (common_steps, words-in-bytes, words-at-most)

@@ -1,5 +1,5 @@
 -- A call by bytes: when it is refused, and what it does when it is not.
-use Rattle.std.specs.Prelude.{◌≡◌, ℕ, ◌+◌, ◌*◌, ◌/◌, ◌%◌, Bool, cond, ◌&&◌, List, [], ◌∷◌, length, take, drop, Ok, Err, Result, ◌==◌, nat_le}
+use Rattle.std.specs.Prelude.{◌≡◌, ℕ, ◌+◌, ◌*◌, ◌/◌, ◌%◌, ◌≤◌, Bool, true, cond, ◌&&◌, List, [], ◌∷◌, length, take, drop, Ok, Err, Result, ◌==◌, nat_le}
 use Rattle.ka10.specs.Numbers.{encoded}
 use Rattle.ka10.specs.Records.{record_of, record_bytes, good_record}
 use Rattle.ka10.specs.declared.records.Record.{Record}
@@ -7,6 +7,7 @@ use Rattle.machine.specs.Steps.{Machine, machine, run_of, Replied, replied}
 use Rattle.machine.specs.User.{user_of}
 use Rattle.packed.specs.Words.{packed_words}
 use Rattle.stops.specs.Stops.{stop_number, stop_word}
+use Rattle.stops.specs.declared.stop.Stop.{Stop}
 use Rattle.words.specs.Refusals.{number_of}
 use Rattle.words.specs.declared.refusal.Refusal.{Refusal}
 use Rattle.words.specs.declared.refusal.Refusal.TheVariants.{CoreNotWholeBlocks, PlaceOutsideCore, BadRecord, BadStepsOrSkip, AllowanceExceeded}
@@ -37,6 +38,15 @@ admitted words base blocks steps bytes reply_length =
     (unless (nat_le ((record_of bytes).count + steps) (record_of bytes).allowance) AllowanceExceeded
     (Ok (record_of bytes)))))))
 
+-- what is known of an admitted call
+pub record Fit (words base blocks steps : ℕ) (bytes : List ℕ) (n : ℕ) (p : Record) : Type 0 where
+  pub some : 1 ≤ blocks
+  pub inside : 1024 * (base + blocks) ≤ words
+  pub record_length : length bytes ≡ 160
+  pub reply_length : n ≡ 24
+  pub good : good_record p ≡ true
+  pub few : steps ≤ 1000000
+
 -- the bytes that a caller lends: of the core, of the program's record and of the reply
 pub record Lent : Type 0 where
   pub core : List ℕ
@@ -66,8 +76,11 @@ record_after p out =
     }
 
 -- steps done, stop and word
+abbrev pub numbers_of : ℕ → Stop → List ℕ
+numbers_of steps stop = steps ∷ stop_number stop ∷ stop_word stop ∷ []
+
 abbrev pub reply_numbers : Replied → List ℕ
-reply_numbers out = out.steps ∷ stop_number out.stop ∷ stop_word out.stop ∷ []
+reply_numbers out = numbers_of out.steps out.stop
 
 abbrev pub reply_bytes : Replied → List ℕ
 reply_bytes out = encoded (reply_numbers out)

@@ -1,14 +1,15 @@
-ghost use Rattle.ka10.specs.Calls.{whole_blocks, in_core, good_steps, admitted};
-ghost use Rattle.std.specs.Prelude.{◌≡◌};
+ghost use Rattle.ka10.specs.Calls.{whole_blocks, in_core, good_steps, admitted, Fit};
+ghost use Rattle.std.specs.Prelude.{◌≡◌, IfOk};
 
 use crate::numbers::read_numbers;
-use crate::records::Record;
+use crate::records::{RECORD_BYTES, Record};
 use memory::BLOCK_WORDS;
 use words::Refusal;
 
 /// A reply has this many bytes.
 const REPLY_BYTES: usize = 24;
 
+/// One call may ask for so many steps.
 const MOST_STEPS: u64 = 1_000_000;
 
 /// What a caller asks for: so many steps of the program in the place of so many blocks from block `base` on.
@@ -50,7 +51,8 @@ impl Request {
         bytes: &[u8],
         reply_length: usize,
     ) -> Result<Record, Refusal>
-        ensures { result ≡ admitted words self.now.base self.now.blocks self.now.steps bytes.now reply_length }
+        ensures tests { result ≡ admitted words self.now.base self.now.blocks self.now.steps bytes.now reply_length }
+        ensures fits { IfOk result (Fit words self.now.base self.now.blocks self.now.steps bytes.now reply_length) }
     {
         if !whole_blocks(words) {
             return Err(Refusal::CoreNotWholeBlocks);
@@ -61,7 +63,7 @@ impl Request {
         if reply_length != REPLY_BYTES {
             return Err(Refusal::BadRecord);
         }
-        let bytes = bytes.as_array::<160>().ok_or(Refusal::BadRecord)?;
+        let bytes = bytes.as_array::<RECORD_BYTES>().ok_or(Refusal::BadRecord)?;
         let given = Record::from(read_numbers(bytes));
         if !given.is_good() {
             return Err(Refusal::BadRecord);

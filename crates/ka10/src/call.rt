@@ -10,16 +10,17 @@ use memory::Core;
 use packed::PackedCore;
 use words::Refusal;
 
-/// How many words a packed core has.
+/// How many words a packed core has. By a core, whose `len` is the count's one definition.
 fn word_count(bytes: &mut [u8]) -> u64
     ensures count { result ≡ length (packed_words bytes.old) }
     ensures same { bytes.new ≡ bytes.old }
 {
-    PackedCore { bytes }.len()
+    PackedCore::new(bytes).len()
 }
 
 /// Runs one program by bytes: up to `steps` steps of the program that `record` holds, in its place in the packed
 /// core, with what came of it in `reply`. Where it is refused, nothing has changed.
+#[tactic(auto, using(crate::proofs::Eights::call_laws))]
 pub fn ka10_run(
     core: &mut [u8],
     base: u64,
@@ -39,7 +40,8 @@ pub fn ka10_run(
     let given = request.admit(word_count(core), record, reply.len())?;
     let left = run_in_core(core, &request, &given);
     write_numbers(&<[u64; 20]>::from(left.record), record);
-    write_numbers(&left.reply, reply);
+    let done = left.reply;
+    write_numbers(&[done.steps, done.stop.number(), done.stop.word()], reply);
     Ok(())
 }
 

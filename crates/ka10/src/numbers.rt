@@ -1,17 +1,15 @@
 ghost use Rattle.std.specs.Prelude.{◌≡◌, ◌*◌, length};
 ghost use Rattle.ka10.specs.Numbers.{numbers, encoded, Wide};
 
+use crate::records::RECORD_BYTES;
+use std::array;
+
 /// The twenty numbers of a record's bytes, eight for each.
-pub(crate) fn read_numbers(bytes: &[u8; 160]) -> [u64; 20]
+pub(crate) fn read_numbers(bytes: &[u8; RECORD_BYTES]) -> [u64; 20]
     ensures { result ≡ numbers bytes.now }
 {
     let (eights, _) = bytes.as_chunks::<8>();
-    let mut all = [0; 20];
-    // A loop and no `array::from_fn`: its contract does not say that each call reads these same chunks.
-    for (k, number) in all.iter_mut().enumerate() {
-        *number = u64::from_be_bytes(eights[k]);
-    }
-    all
+    array::from_fn(|k| u64::from_be_bytes(eights[k]))
 }
 
 /// Writes numbers into a buffer that has just the room for them.
@@ -20,7 +18,8 @@ pub(crate) fn write_numbers(given: &[u64], bytes: &mut [u8])
     ensures bytes { bytes.new ≡ encoded given.now }
     ensures wide { Wide given.now }
 {
-    // By index, since the contract of `as_chunks_mut` does not say what the buffer holds in the end.
+    // By index, since the contract of `as_chunks_mut` does not say what the buffer holds in the end. Taking one chunk alone
+    // at a time, by `split_first_chunk_mut`, would be no shorter.
     for (i, n) in given.iter().enumerate() {
         bytes[8 * i..8 * i + 8].copy_from_slice(&n.to_be_bytes());
     }

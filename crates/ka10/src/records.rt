@@ -7,6 +7,9 @@ use words::{HALF_LIMIT, all_words};
 /// Overflow, Carry 0, Carry 1, Floating Overflow, Byte Interrupt, User, Floating Underflow and No Divide.
 const LISTED_FLAGS: u64 = 0o770140;
 
+/// A record has this many bytes.
+pub(crate) const RECORD_BYTES: usize = 160;
+
 const MOST_ALLOWANCE: u64 = 1_000_000_000_000;
 
 /// A program between two runs: its accumulators, its PC and flags, how many steps it has done and how many

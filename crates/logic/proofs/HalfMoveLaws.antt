@@ -39,7 +39,7 @@ rest-bit Zeros h g k l = bit_at-zero k
 rest-bit Ones h g k l = bit_at_ones 18 k l
 rest-bit Extended h g k l = copies-bit k l (bit h 17) (bit_at-lt h 17)
 
-pub move_law : (kind : HalfMove) (source destination r : ℕ) → r ≡ moved_half kind source destination → Moves kind source destination r
+move_law : (kind : HalfMove) (source destination r : ℕ) → r ≡ moved_half kind source destination → Moves kind source destination r
 unfolding moved_half
 move_law kind source destination r e =
     let s = kind.to in
@@ -49,3 +49,11 @@ move_law kind source destination r e =
     let this : half s r ≡ h = ap (half s) e ∙ placed-this s h g ∙ mod-eq_of_lt (half-below kind.from source) in
     let that : half (opposite s) r ≡ g = ap (half (opposite s)) e ∙ placed-other s h g ∙ mod-eq_of_lt (rest_below kind.other h stood (half-below (opposite s) destination)) in
     (this, λ k l. ap (λ n. bit n k) that ∙ rest-bit kind.other h stood k l)
+
+pub moved_there : (kind : HalfMove) (source destination r : ℕ) → r ≡ moved_half kind source destination → half kind.to r ≡ half kind.from source
+moved_there kind source destination r e = (move_law kind source destination r e).0
+
+pub rest_bits : (kind : HalfMove) (source destination r k : ℕ) → r ≡ moved_half kind source destination → k < 18 → bit (half (opposite kind.to) r) k ≡ rest_bit kind.other (half kind.from source) (bit (half (opposite kind.to) destination) k)
+rest_bits kind source destination r k e l = (move_law kind source destination r e).1 k l
+
+pub ruleset move_laws = (moved_there, rest_bits)

@@ -24,7 +24,7 @@ module _ (ac mask : ℕ) where
       let P : ℕ → ℕ → Type 0 = λ b c. (c ≡ 1 → f b c ≡ changed_bit change b) × (c ≡ 0 → f b c ≡ b) in
       let each = each-pair P (λ e. omega arith, λ _. p) (λ _. u, λ e. omega arith) (λ e. omega arith, λ _. q) (λ _. v, λ e. omega arith) in
       let at : (k : ℕ) → P (bit ac k) (bit mask k) = λ k. each (bit ac k) (bit mask k) (bit_at-lt ac k) (bit_at-lt mask k) in
-      λ k l. (λ e. h.bits k l ∙ (at k).0 e, λ e. h.bits k l ∙ (at k).1 e)
+      record { masked = λ k l e. h.bits k l ∙ (at k).0 e; others = λ k l e. h.bits k l ∙ (at k).1 e }
 
   changed_by-law : (change : Change) → Changes change ac mask (changed_by change ac mask)
   unfolding changed_by

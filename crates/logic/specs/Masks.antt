@@ -22,8 +22,9 @@ changed_bit Complement b = 1 - b
 changed_bit Ones b = 1
 
 -- each masked bit is changed as said, and the others are kept
-abbrev pub Changes : Change → ℕ → ℕ → ℕ → Type 0
-Changes change ac mask r = (k : ℕ) → k < 36 → (bit mask k ≡ 1 → bit r k ≡ changed_bit change (bit ac k)) × (bit mask k ≡ 0 → bit r k ≡ bit ac k)
+pub record Changes (change : Change) (ac mask r : ℕ) : Type 0 where
+  pub masked : (k : ℕ) → k < 36 → bit mask k ≡ 1 → bit r k ≡ changed_bit change (bit ac k)
+  pub others : (k : ℕ) → k < 36 → bit mask k ≡ 0 → bit r k ≡ bit ac k
 
 -- whether the next instruction is skipped
 unfoldable pub skips_when : SkipWhen → ℕ → ℕ → Bool

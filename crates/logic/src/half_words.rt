@@ -85,7 +85,7 @@ impl From<u64> for HalfMove {
 }
 
 /// The destination after a half of the source is moved to it.
-#[tactic(auto, unfolding(crate::specs::HalfMoves::moved_half))]
+#[tactic(auto, using(crate::proofs::HalfMoveLaws::move_laws), unfolding(crate::specs::HalfMoves::moved_half))]
 pub fn move_half(kind: HalfMove, source: u64, destination: u64) -> u64
     ensures value { result ≡ moved_half kind source destination }
     ensures narrow { result < 2 ^ 36 }
@@ -107,6 +107,9 @@ fn rest(other: Other, moved: u64, stood: u64) -> u64
         Other::Kept => stood,
         Other::Zeros => 0,
         Other::Ones => HALF_LIMIT - 1,
-        Other::Extended => moved / (HALF_LIMIT / 2) % 2 * (HALF_LIMIT - 1),
+        Other::Extended => {
+            let negative = moved / (HALF_LIMIT / 2) % 2 == 1;
+            if negative { HALF_LIMIT - 1 } else { 0 }
+        }
     }
 }

@@ -62,7 +62,7 @@ impl From<u64> for SkipWhen {
 }
 
 /// The accumulator with its masked bits changed.
-#[tactic(auto, using(crate::proofs::BitLaws::words_below), unfolding(crate::specs::Masks::changed_by))]
+#[tactic(auto, using(crate::proofs::BitLaws::words_below, crate::proofs::MaskLaws::change_law), unfolding(crate::specs::Masks::changed_by))]
 pub fn changed(change: Change, ac: u64, mask: u64) -> u64
     ensures value { result ≡ changed_by change ac mask }
     ensures narrow { result < 2 ^ 36 }

@@ -1,5 +1,5 @@
 -- The parts of an executed word, in their order.
-use Rattle.std.proofs.Common.{◌≡◌, ℕ, suc, ◌+◌, ◌-◌, ◌<◌, Err, arith}
+use Rattle.std.proofs.Common.{◌≡◌, ℕ, zero, suc, ◌-◌, ◌<◌, Err, arith}
 use Rattle.std.proofs.lemmas.Grind.{common_steps}
 use Rattle.machine.specs.Endings.{ended, onward}
 use Rattle.machine.specs.Execution.{one_word, followed, executed}
@@ -12,10 +12,10 @@ module _ (m : Machine) (w : ℕ) where
   unfolding executed
   executed-last n z = rw z
 
-  -- k words of n are executed
-  pub executed-more : (n k : ℕ) → k < n → executed (n - k) m w ≡ followed (one_word m w) (λ x a. onward (fetched x.user a) x (executed (n - (k + 1)) x))
+  pub executed-more : (n : ℕ) → 0 < n → executed n m w ≡ followed (one_word m w) (λ x a. onward (fetched x.user a) x (executed (n - 1) x))
   unfolding executed
-  executed-more n k l = let e : n - k ≡ suc (n - (k + 1)) = omega arith in rw e
+  executed-more zero p = absurd (omega arith)
+  executed-more (suc n) p = let e : suc n - 1 ≡ n = omega arith in rw e
 
 -- for `grind`
 pub ruleset execution_laws = (common_steps, executed-last, executed-more)

@@ -40,7 +40,7 @@ abbrev pub storing : List ℕ → Option (ℕ × ℕ) → List ℕ
 storing u None = u
 storing u (Some p) = slice_set u p.0 p.1
 
--- the user words after an effect: memory is written, then accumulator A, then A + 1, which is 0 after 15
+-- the user words after an effect: memory first, A next, and last A + 1, where 15 is followed by 0
 abbrev pub written : List ℕ → ℕ → Effect → List ℕ
 written u a f = setting (setting (storing u f.store) a f.a) ((a + 1) % 16) f.a1
 

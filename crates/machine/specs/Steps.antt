@@ -32,7 +32,7 @@ abbrev pub stepped_from : Result ℕ Stop → Machine → Stepped
 stepped_from (Ok w) m = settled m.status (executed 63 (machine m.user (advanced m.status)) w)
 stepped_from (Err t) m = stepped m (Some t)
 
--- the step rule: the word at PC is fetched, PC grows by 1, and the word is executed
+-- the step rule: a word is fetched from where PC points, PC goes on by 1, and that word is executed
 unfoldable pub step_of : Machine → Stepped
 step_of m = stepped_from (fetched m.user m.status.pc) m
 

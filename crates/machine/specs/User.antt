@@ -1,5 +1,5 @@
 -- What a program sees of its place: sixteen accumulators, and then the words of its block from the seventeenth on.
-use Rattle.std.specs.Prelude.{◌≡◌, ℕ, ◌+◌, ◌-◌, ◌*◌, cond, List, ◌++◌, length, take, drop, Ok, Err, Result, nat_lt, slice_index}
+use Rattle.std.specs.Prelude.{ℕ, ◌+◌, ◌-◌, ◌*◌, cond, List, ◌++◌, length, take, drop, Ok, Err, Result, nat_lt, slice_index}
 use Rattle.machine.specs.declared.space.Space.{Space}
 use Rattle.stops.specs.declared.stop.Stop.{Stop}
 use Rattle.stops.specs.declared.stop.Stop.TheVariants.{IllegalAddress}
@@ -39,11 +39,3 @@ outside p ws r =
       above = drop (1024 * (p.base + p.blocks)) ws;
       rest = r;
     }
-
--- what no program changes: where its block lies, and each word of the core that is not the program's
-pub record Kept (p : Space) (ws : List ℕ) (q : Space) (vs : List ℕ) : Type 0 where
-  pub base : q.base ≡ p.base
-  pub blocks : q.blocks ≡ p.blocks
-  pub count : length vs ≡ length ws
-  pub below : take (1024 * p.base + 16) vs ≡ take (1024 * p.base + 16) ws
-  pub above : drop (1024 * (p.base + p.blocks)) vs ≡ drop (1024 * (p.base + p.blocks)) ws

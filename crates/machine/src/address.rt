@@ -19,18 +19,19 @@ const ADDRESS_WORDS: u64 = 64;
 fn locate(space: &Space, last: Option<u64>, word: u64) -> Located
     ensures { (ws : List ℕ) → result ≡ located last (user space.now ws) word }
 {
-    let register = index(word);
     let own = right(word);
-    if register == 0 {
-        return Located {
+    match index(word) {
+        0 => Located {
             address: own,
             flag_word: last,
-        };
-    }
-    let added = space.accumulators[register as usize];
-    Located {
-        address: (own + right(added)) % HALF_LIMIT,
-        flag_word: Some(added),
+        },
+        register => {
+            let added = space.accumulators[register as usize];
+            Located {
+                address: (own + right(added)) % HALF_LIMIT,
+                flag_word: Some(added),
+            }
+        }
     }
 }
 

@@ -27,6 +27,7 @@ fn carry_out<C: Core>(core: &mut C, place: &mut Place, word: u64, at: Located) -
     ensures keeps { outside place.new.space (C.words core.new) (C.rest core.new)
         ≡ outside place.old.space (C.words core.old) (C.rest core.old) }
 {
+    // A match and no table of functions: the kinds are fixed, and one of them has an operation to hand on.
     match decode(word) {
         Instruction::UserCall => user_call(core, place, word, at),
         Instruction::Execute => Ok(Next::At(at.address)),
@@ -59,15 +60,18 @@ pub(crate) fn execute<C: Core>(
     ensures keeps { outside place.new.space (C.words core.new) (C.rest core.new)
         ≡ outside place.old.space (C.words core.old) (C.rest core.old) }
 {
+    // A budget counted by hand. A `for` was tried: the last word is then executed after it, and that second call of
+    // `one_word` keeps the compiler from inlining it, which makes a step longer by a fifth (tests/speed/count.sh).
+    let mut budget = FURTHER_WORDS;
     let mut word = first;
-    for _ in 0..FURTHER_WORDS {
+    loop {
         match one_word(core, place, word)? {
             Next::Done(stop) => return Ok(stop),
-            Next::At(address) => word = read(core, &place.space, address)?,
+            Next::At(_) if budget == 0 => return Err(Stop::ExecutedWords),
+            Next::At(address) => {
+                budget -= 1;
+                word = read(core, &place.space, address)?;
+            }
         }
-    }
-    match one_word(core, place, word)? {
-        Next::Done(stop) => Ok(stop),
-        Next::At(_) => Err(Stop::ExecutedWords),
     }
 }

@@ -9,15 +9,15 @@ use crate::located::Located;
 use crate::next::Next;
 use crate::place::Place;
 use crate::reference::{read, write};
-use crate::space::Space;
+use crate::space::{ACCUMULATORS, Space};
 use crate::special::call_word;
 use instructions::{effect_of, operand_address};
 use memory::Core;
 use operations::{Effect, Inputs, Operation, accumulator};
 use stops::Stop;
 
-/// The operand, read if there is one to read.
-fn operand<C: Core>(core: &C, space: &Space, from: Option<u64>) -> Result<u64, Stop>
+/// The operand, read if there is one to read. An instruction without one is given 0 and does not look at it.
+fn read_operand<C: Core>(core: &C, space: &Space, from: Option<u64>) -> Result<u64, Stop>
     ensures value { result ≡ operand_from from (user space.now (C.words core.now)) }
     ensures narrow { IfOk result (λ w. w < 2 ^ 36) }
 {
@@ -63,7 +63,7 @@ fn apply<C: Core>(core: &mut C, place: &mut Place, a: u64, f: Effect) -> Result<
 {
     store(core, &mut place.space, f.store)?;
     put(&mut place.space, a, f.a);
-    put(&mut place.space, (a + 1) % 16, f.a1);
+    put(&mut place.space, (a + 1) % ACCUMULATORS, f.a1);
     place.status = f.status;
     Ok(Next::Done(f.stop))
 }
@@ -84,8 +84,8 @@ pub(crate) fn perform<C: Core>(
 {
     let field = accumulator(word);
     let ac = place.space.accumulators[field as usize];
-    let next = place.space.accumulators[((field + 1) % 16) as usize];
-    let operand = operand(core, &place.space, operand_address(op, at.address, ac))?;
+    let next = place.space.accumulators[((field + 1) % ACCUMULATORS) as usize];
+    let operand = read_operand(core, &place.space, operand_address(op, at.address, ac))?;
     let given = Inputs {
         field,
         ac,

@@ -1,7 +1,7 @@
 ghost use Rattle.std.specs.Prelude.{◌≡◌, ◌^◌, ◌<◌, IfOk, slice_set};
 ghost use Rattle.machine.specs.User.{user, fetched, stored, outside};
 
-use crate::space::Space;
+use crate::space::{ACCUMULATORS, Space};
 use memory::{BLOCK_WORDS, Core};
 use stops::Stop;
 
@@ -11,7 +11,7 @@ pub(crate) fn read<C: Core>(core: &C, space: &Space, a: u64) -> Result<u64, Stop
     ensures value { result ≡ fetched (user space.now (C.words core.now)) a }
     ensures narrow { IfOk result (λ w. w < 2 ^ 36) }
 {
-    if a < 16 {
+    if a < ACCUMULATORS {
         return Ok(space.accumulators[a as usize]);
     }
     if a >= BLOCK_WORDS * space.blocks {
@@ -30,7 +30,7 @@ pub(crate) fn write<C: Core>(core: &mut C, space: &mut Space, a: u64, w: u64) ->
     ensures keeps { outside space.new (C.words core.new) (C.rest core.new)
         ≡ outside space.old (C.words core.old) (C.rest core.old) }
 {
-    if a < 16 {
+    if a < ACCUMULATORS {
         space.accumulators[a as usize] = w;
         return Ok(());
     }

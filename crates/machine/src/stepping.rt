@@ -1,7 +1,7 @@
 ghost use Rattle.std.specs.Prelude.{◌≡◌, unwrap_or};
 ghost use Rattle.machine.specs.ExecuteLaw.{ExecutesInPlace};
 ghost use Rattle.machine.specs.Steps.{state, stepped, stop_of, step_of, ran, replied, run_of, RunSplits};
-ghost use Rattle.machine.specs.User.{Kept};
+ghost use Rattle.machine.specs.User.{outside};
 
 use crate::execute::execute;
 use crate::place::Place;
@@ -25,6 +25,7 @@ impl Drop for Guard<'_> {
         if let Some(saved) = self.saved {
             self.place.status = saved;
         }
+        // Taken apart, as a drop has to end.
         let Guard { place: _, saved: _ } = self;
     }
 }
@@ -36,8 +37,8 @@ pub fn step<C: Core>(core: &mut C, place: &mut Place) -> Result<(), Stop>
     ensures does { stepped (state place.new (C.words core.new)) (stop_of result)
         ≡ step_of (state place.old (C.words core.old)) }
     ensures xct { ExecutesInPlace }
-    ensures kept { Kept place.old.space (C.words core.old) place.new.space (C.words core.new) }
-    ensures rest { C.rest core.new ≡ C.rest core.old }
+    ensures keeps { outside place.new.space (C.words core.new) (C.rest core.new)
+        ≡ outside place.old.space (C.words core.old) (C.rest core.old) }
 {
     let saved = place.status;
     let word = read(core, &place.space, saved.pc)?;
@@ -45,6 +46,7 @@ pub fn step<C: Core>(core: &mut C, place: &mut Place) -> Result<(), Stop>
         place,
         saved: Some(saved),
     };
+    // Said here again: `following` of `instructions` is of any address, and this is the step rule's own.
     guard.place.status.pc = (saved.pc % HALF_LIMIT + 1) % HALF_LIMIT;
     let ending = execute(core, guard.place, word)?;
     guard.saved = None;
@@ -64,8 +66,8 @@ pub fn run<C: Core>(core: &mut C, place: &mut Place, most: u64) -> Reply
     ensures does { ran (state place.new (C.words core.new)) result.steps result.stop
         ≡ replied (run_of most (state place.old (C.words core.old))) }
     ensures splits { RunSplits }
-    ensures kept { Kept place.old.space (C.words core.old) place.new.space (C.words core.new) }
-    ensures rest { C.rest core.new ≡ C.rest core.old }
+    ensures keeps { outside place.new.space (C.words core.new) (C.rest core.new)
+        ≡ outside place.old.space (C.words core.old) (C.rest core.old) }
 {
     for done in 0..most {
         if let Err(stop) = step(core, place) {

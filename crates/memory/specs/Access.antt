@@ -8,6 +8,11 @@ abbrev pub Reads : List ℕ → ℕ → Result ℕ Refusal → Type 0
 Reads ws a (Ok w) = (a < length ws) × (w ≡ slice_index ws a)
 Reads ws a (Err e) = (length ws ≤ a) × (number_of e ≡ 13)
 
+-- the test of an address: refusal 13 exactly where there is no word
+abbrev pub ChecksAddress : List ℕ → ℕ → Result (Unit {0}) Refusal → Type 0
+ChecksAddress ws a (Ok u) = a < length ws
+ChecksAddress ws a (Err e) = (length ws ≤ a) × (number_of e ≡ 13)
+
 -- the tests before a write of w at a: it is refused with 10 exactly when w is no word, else with 13 exactly when there is
 -- no word at a
 abbrev pub ChecksWrite : List ℕ → ℕ → ℕ → Result (Unit {0}) Refusal → Type 0

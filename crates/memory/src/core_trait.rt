@@ -1,5 +1,5 @@
-ghost use Rattle.std.specs.Prelude.{◌≡◌, ℕ, ◌≤◌, List, length};
-ghost use Rattle.memory.specs.Access.{Reads, ChecksWrite, Writes};
+ghost use Rattle.std.specs.Prelude.{◌≡◌, ℕ, ◌≤◌, ◌==◌, List, length};
+ghost use Rattle.memory.specs.Access.{ChecksAddress, ChecksWrite, Reads, Writes};
 ghost use Rattle.words.specs.Word.{Narrow};
 
 use words::{HALF_LIMIT, Refusal, WORD_LIMIT};
@@ -12,7 +12,7 @@ pub const BLOCK_WORDS: u64 = 1024;
 
 /// A memory of 36-bit words. Its meaning is a list of words, by address, whose length never changes.
 ///
-/// The cores over lent numbers and over lent bytes are no one generic type: they differ in how a word lies in what is
+/// The cores over lent numbers and over lent bytes are not one generic type: they differ in how a word lies in what is
 /// lent, and their bodies say little else.
 pub trait Core {
     /// The words, by address.
@@ -33,9 +33,26 @@ pub trait Core {
     fn len(&self) -> u64
         ensures { result ≡ length (words self.now) };
 
+    /// Whether there are none.
+    fn is_empty(&self) -> bool
+        ensures { result ≡ (length (words self.now) == 0) }
+    {
+        self.len() == 0
+    }
+
     /// The word at `a`.
     fn read(&self, a: u64) -> Result<u64, Refusal>
         ensures { Reads (words self.now) a result };
+
+    /// Refuses an address that is not there.
+    fn check_address(&self, a: u64) -> Result<(), Refusal>
+        ensures { ChecksAddress (words self.now) a result }
+    {
+        if a >= self.len() {
+            return Err(Refusal::AddressOutsideCore);
+        }
+        Ok(())
+    }
 
     /// Refuses what no core writes: a number that is no word, and then any word at an address that is not there. Every
     /// core's `write` begins with it.
@@ -45,10 +62,7 @@ pub trait Core {
         if w >= WORD_LIMIT {
             return Err(Refusal::NotAWord);
         }
-        if a >= self.len() {
-            return Err(Refusal::AddressOutsideCore);
-        }
-        Ok(())
+        self.check_address(a)
     }
 
     /// Puts the word `w` at `a`.

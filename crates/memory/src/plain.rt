@@ -40,9 +40,7 @@ impl<'a> Core for PlainCore<'a> {
     }
 
     fn read(&self, a: u64) -> Result<u64, Refusal> {
-        if a >= self.len() {
-            return Err(Refusal::AddressOutsideCore);
-        }
+        self.check_address(a)?;
         Ok(self.cells[a as usize] % WORD_LIMIT)
     }
 

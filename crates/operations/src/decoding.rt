@@ -1,10 +1,10 @@
-//! Which instruction a word is, by the octal digits of its code.
+//! Which instruction a word is, by its code, which is read in octal.
 //!
 //! Below `decode`, each function reads one range of codes, and several give the same type. They have names of their own,
 //! since a type has only one `From<u64>`.
 
 ghost use Rattle.operations.specs.Decode.{decoded, call_of, comparison_of, exchange_of, full_word_of, jrst_of, move_of, shift_of, stack_of};
-ghost use Rattle.std.specs.Prelude.{◌≡◌};
+ghost use Rattle.std.specs.Prelude.{◌≡◌, ◌<◌, ◌≤◌};
 
 use crate::fields::{accumulator, opcode};
 use crate::operation::{Form, Instruction, MaskFrom, Mode, MoveMode, Operation, Shift};
@@ -19,54 +19,48 @@ pub fn decode(word: u64) -> Instruction
     ensures { result ≡ decoded word }
 {
     let code = opcode(word);
-    match code / 64 % 8 {
-        0 => call_of(code),
-        1 => Instruction::Ordinary(Operation::NotInstalled),
-        2 => full_word_of(code, accumulator(word)),
-        3 => Instruction::Ordinary(comparison_of(code)),
-        4 => Instruction::Ordinary(Operation::Boolean(code / 4 % 16, Mode::from(code))),
-        5 => Instruction::Ordinary(Operation::HalfWord(HalfMove::from(code), MoveMode::from(code))),
-        6 => Instruction::Ordinary(Operation::Test(
+    match code {
+        ..=0o077 => call_of(code),
+        0o100..=0o177 => Operation::NotInstalled.into(),
+        0o200..=0o277 => full_word_of(code, accumulator(word)),
+        0o300..=0o377 => comparison_of(code).into(),
+        0o400..=0o477 => Operation::Boolean(code / 4 % 16, Mode::from(code)).into(),
+        0o500..=0o577 => Operation::HalfWord(HalfMove::from(code), MoveMode::from(code)).into(),
+        0o600..=0o677 => Operation::Test(
             MaskFrom::from(code),
             Change::from(code),
             SkipWhen::from(code),
-        )),
-        _ => Instruction::Ordinary(Operation::MonitorCall),
+        )
+        .into(),
+        _ => Operation::MonitorCall.into(),
     }
 }
 
 /// Codes 000 to 077.
 fn call_of(code: u64) -> Instruction
+    requires { code < 64 }
     ensures { result ≡ call_of code }
 {
-    match code / 8 % 8 {
-        0 => match code % 8 {
-            0 => Instruction::Ordinary(Operation::MonitorCall),
-            _ => Instruction::UserCall,
-        },
-        1 | 2 | 3 => Instruction::UserCall,
-        _ => Instruction::Ordinary(Operation::MonitorCall),
+    match code {
+        0o001..=0o037 => Instruction::UserCall,
+        _ => Operation::MonitorCall.into(),
     }
 }
 
 /// Codes 200 to 277: moves, integer arithmetic, shifts, and jumps that save or restore.
 fn full_word_of(code: u64, field: u64) -> Instruction
+    requires { (128 ≤ code) × (code < 192) }
     ensures { result ≡ full_word_of code field }
 {
-    match code / 8 % 8 {
-        0 | 1 => Instruction::Ordinary(move_of(code)),
-        2 => Instruction::Ordinary(Operation::NotInstalled),
-        3 => match code / 4 % 2 {
-            0 => Instruction::Ordinary(Operation::Idiv(Mode::from(code))),
-            _ => Instruction::Ordinary(Operation::NotInstalled),
-        },
-        4 => Instruction::Ordinary(shift_of(code)),
-        5 => exchange_of(code, field),
-        6 => Instruction::Ordinary(stack_of(code)),
-        _ => match code / 4 % 2 {
-            0 => Instruction::Ordinary(Operation::Add(Mode::from(code))),
-            _ => Instruction::Ordinary(Operation::Sub(Mode::from(code))),
-        },
+    match code {
+        0o200..=0o217 => move_of(code).into(),
+        0o230..=0o233 => Operation::Idiv(Mode::from(code)).into(),
+        0o240..=0o247 => shift_of(code).into(),
+        0o250..=0o257 => exchange_of(code, field),
+        0o260..=0o267 => stack_of(code).into(),
+        0o270..=0o273 => Operation::Add(Mode::from(code)).into(),
+        0o274..=0o277 => Operation::Sub(Mode::from(code)).into(),
+        _ => Operation::NotInstalled.into(),
     }
 }
 
@@ -98,14 +92,14 @@ fn exchange_of(code: u64, field: u64) -> Instruction
     ensures { result ≡ exchange_of code field }
 {
     match code % 8 {
-        0 => Instruction::Ordinary(Operation::Exch),
+        0 => Operation::Exch.into(),
         1 => Instruction::BlockTransfer,
-        2 => Instruction::Ordinary(Operation::Aobjp),
-        3 => Instruction::Ordinary(Operation::Aobjn),
-        4 => Instruction::Ordinary(jrst_of(field)),
-        5 => Instruction::Ordinary(Operation::Jfcl),
+        2 => Operation::Aobjp.into(),
+        3 => Operation::Aobjn.into(),
+        4 => jrst_of(field).into(),
+        5 => Operation::Jfcl.into(),
         6 => Instruction::Execute,
-        _ => Instruction::Ordinary(Operation::Nothing),
+        _ => Operation::Nothing.into(),
     }
 }
 

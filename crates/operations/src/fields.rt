@@ -25,7 +25,8 @@ pub fn is_direct(word: u64) -> bool
     word / (1 << 22) % 2 == 0
 }
 
-/// The number of the index register, where 0 means none.
+/// The number of the index register. A number and no Option: it is the field as it stands in the word, where 0 means
+/// none.
 pub fn index(word: u64) -> u64
     ensures { result ≡ index word }
 {

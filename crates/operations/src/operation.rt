@@ -1,3 +1,6 @@
+ghost use Rattle.operations.specs.declared.operation.Instruction.TheVariants.{Ordinary};
+ghost use Rattle.std.specs.Prelude.{◌≡◌};
+
 use arithmetic::Condition;
 use logic::{Change, HalfMove, SkipWhen};
 
@@ -79,7 +82,7 @@ pub enum Operation {
     Exch,
     Aobjp,
     Aobjn,
-    /// JRST; whether it takes the flags from the last address level.
+    /// JRST. A yes or no, and no kind: whether it takes the flags from the last address level.
     Jrst(bool),
     Jfcl,
     Pushj,
@@ -116,4 +119,13 @@ pub enum Instruction {
     /// BLT
     BlockTransfer,
     Ordinary(Operation),
+}
+
+/// An operation is an instruction of the ordinary kind.
+impl From<Operation> for Instruction {
+    ghost from_gives = { λ operation instruction. instruction ≡ Ordinary operation };
+
+    fn from(operation: Operation) -> Instruction {
+        Instruction::Ordinary(operation)
+    }
 }

@@ -5,13 +5,11 @@ use Rattle.packed.specs.Layout.{even, odd, unpack}
 use Rattle.packed.specs.Nines.{by-nines}
 use Rattle.packed.specs.Words.{packed_words, unpack-short, length-unpack}
 use Rattle.std.proofs.lemmas.List.{length-drop, length-take, nil_from_length, take_all, take-take, drop-take}
+use Rattle.std.proofs.Math.Numerals.{unary_clauses}
 
--- the next pair is nine bytes and two words further on
-nine : (k : ℕ) → 9 * suc k ≡ suc (suc (suc (suc (suc (suc (suc (suc (suc (9 * k)))))))))
-nine k = omega arith
-
-two : (k : ℕ) → 2 * suc k ≡ suc (suc (2 * k))
-two k = omega arith
+-- nine bytes further on; `unary_clauses` ends at eight
+pub nine : (n : ℕ) → n + 9 ≡ suc (suc (suc (suc (suc (suc (suc (suc (suc n))))))))
+nine n = omega arith
 
 abbrev TakesWords : List ℕ → Type 0
 TakesWords bs = (n : ℕ) → unpack (take (9 * n) bs) ≡ take (2 * n) (unpack bs)
@@ -24,7 +22,7 @@ takes-short bs l n =
 takes-more : (a b c d e f g h i : ℕ) (bs : List ℕ) → TakesWords bs → TakesWords (a ∷ b ∷ c ∷ d ∷ e ∷ f ∷ g ∷ h ∷ i ∷ bs)
 unfolding unpack
 takes-more a b c d e f g h i bs again zero = refl
-takes-more a b c d e f g h i bs again (suc n) = rw (nine n, two n) (ap (λ (t : List ℕ). even a b c d e ∷ odd e f g h i ∷ t) (again n))
+takes-more a b c d e f g h i bs again (suc n) = simp (nine, unary_clauses) (ap (λ (t : List ℕ). even a b c d e ∷ odd e f g h i ∷ t) (again n))
 
 -- the words of the first n nines are the first 2 n words
 pub unpack-take : (bs : List ℕ) → TakesWords bs
@@ -41,7 +39,7 @@ drops-short bs l n =
 drops-more : (a b c d e f g h i : ℕ) (bs : List ℕ) → DropsWords bs → DropsWords (a ∷ b ∷ c ∷ d ∷ e ∷ f ∷ g ∷ h ∷ i ∷ bs)
 unfolding unpack
 drops-more a b c d e f g h i bs again zero = refl
-drops-more a b c d e f g h i bs again (suc n) = rw (nine n, two n) (again n)
+drops-more a b c d e f g h i bs again (suc n) = simp (nine, unary_clauses) (again n)
 
 -- the words past the first n nines are those past the first 2 n words
 pub unpack-drop : (bs : List ℕ) → DropsWords bs

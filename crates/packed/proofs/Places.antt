@@ -4,30 +4,20 @@ use Rattle.memory.specs.Cut.{cut, cuts, length_cut}
 use Rattle.std.specs.Simd.{first_chunks}
 use borrow.Rule.Slice.PartMut.{put_mid}
 use Rattle.std.specs.Int.{to_be_bytes}
+use Rattle.packed.proofs.Parts.{nine}
+use Rattle.std.proofs.Math.Nat.{suc-mul}
+use Rattle.std.proofs.Math.Numerals.{unary_clauses}
 use Rattle.packed.specs.Layout.{even, odd, even_at, odd_at, unpack, put_even, put_odd, put_word}
 use Rattle.packed.specs.Nines.{by-nines}
 use Rattle.packed.specs.Words.{left_over, length-unpack}
 use Rattle.std.proofs.lemmas.List.{drop-set-lt, length-set}
 use Rattle.std.proofs.lemmas.Bool.{cond-true, cond-false, eq-eqb, ne_eqb, cases_eq, cond_both}
 
--- the next pair is nine bytes and two words further on
-nine : (k c : ℕ) → suc k * 9 + c ≡ suc (suc (suc (suc (suc (suc (suc (suc (suc (k * 9 + c)))))))))
-nine k c = omega arith
-
-nine₀ : (k : ℕ) → suc k * 9 ≡ suc (suc (suc (suc (suc (suc (suc (suc (suc (k * 9)))))))))
-nine₀ k = omega arith
-
-two : (k : ℕ) → suc k * 2 ≡ suc (suc (k * 2))
-two k = omega arith
-
-two₁ : (k : ℕ) → suc k * 2 + 1 ≡ suc (suc (k * 2 + 1))
-two₁ k = omega arith
-
 -- what is to show of each pair, by its number k: the k-th nine of the first n holds its words
 abbrev ReadsPair : List ℕ → Type 0
 ReadsPair bs =
     (k n : ℕ) (d : List ℕ) → k < n → n * 9 ≤ length bs
-    → (get_or (unpack bs) (k * 2) 0 ≡ even_at (get_or (first_chunks 9 n bs) k d) 0) × (get_or (unpack bs) (k * 2 + 1) 0 ≡ odd_at (get_or (first_chunks 9 n bs) k d) 0)
+    → (get_or (unpack bs) (2 * k) 0 ≡ even_at (get_or (first_chunks 9 n bs) k d) 0) × (get_or (unpack bs) (suc (2 * k)) 0 ≡ odd_at (get_or (first_chunks 9 n bs) k d) 0)
 
 reads_more : (a b c d e f g h i : ℕ) (bs : List ℕ) → ReadsPair bs → ReadsPair (a ∷ b ∷ c ∷ d ∷ e ∷ f ∷ g ∷ h ∷ i ∷ bs)
 unfolding unpack
@@ -35,7 +25,7 @@ reads_more a b c d e f g h i bs again k zero x l m = absurd (omega arith)
 reads_more a b c d e f g h i bs again zero (suc n) x l m = (refl, refl)
 reads_more a b c d e f g h i bs again (suc k) (suc n) x l m =
     let next = again k n x (omega arith) (omega arith) in
-    (rw (two k) next.0, rw (two₁ k) next.1)
+    (simp unary_clauses next.0, simp unary_clauses next.1)
 
 reads-pair : (bs : List ℕ) → ReadsPair bs
 reads-pair = by-nines ReadsPair (λ bs short k n x l m. absurd (omega arith)) reads_more
@@ -68,7 +58,7 @@ unfolding even
 even-kept w a b c d e l = omega arith
 
 abbrev PutsPair : List ℕ → Type 0
-PutsPair bs = (k w : ℕ) → w < 2 ^ 36 → k * 9 + 8 < length bs → (unpack (put_even bs (k * 9) w) ≡ set (unpack bs) (k * 2) w) × (unpack (put_odd bs (k * 9) w) ≡ set (unpack bs) (k * 2 + 1) w)
+PutsPair bs = (k w : ℕ) → w < 2 ^ 36 → k * 9 + 8 < length bs → (unpack (put_even bs (k * 9) w) ≡ set (unpack bs) (2 * k) w) × (unpack (put_odd bs (k * 9) w) ≡ set (unpack bs) (suc (2 * k)) w)
 
 puts-more : (a b c d e f g h i : ℕ) (bs : List ℕ) → PutsPair bs → PutsPair (a ∷ b ∷ c ∷ d ∷ e ∷ f ∷ g ∷ h ∷ i ∷ bs)
 unfolding unpack
@@ -80,8 +70,8 @@ puts-more a b c d e f g h i bs again zero w m l =
     ((cc), (cc))
 puts-more a b c d e f g h i bs again (suc k) w m l =
     let less : k * 9 + 8 < length bs = omega arith in (
-      rw (two k, nine k 1, nine k 2, nine k 3, nine k 4, nine₀ k) (ap (λ (t : List ℕ). even a b c d e ∷ odd e f g h i ∷ t) (again k w m less).0),
-      rw (two₁ k, nine k 4, nine k 5, nine k 6, nine k 7, nine k 8) (ap (λ (t : List ℕ). even a b c d e ∷ odd e f g h i ∷ t) (again k w m less).1),
+      simp (suc-mul, nine, unary_clauses) (ap (λ (t : List ℕ). even a b c d e ∷ odd e f g h i ∷ t) (simp unary_clauses at (again k w m less).0)),
+      simp (suc-mul, nine, unary_clauses) (ap (λ (t : List ℕ). even a b c d e ∷ odd e f g h i ∷ t) (simp unary_clauses at (again k w m less).1)),
     )
 
 puts-pair : (bs : List ℕ) → PutsPair bs
@@ -109,10 +99,10 @@ five-odd w s n m l e =
 -- the same by the address
 module _ (bs : List ℕ) (a : ℕ) (in' : a < 2 * (length bs / 9)) where
   pub get_or-even : (x : List ℕ) → a % 2 ≡ 0 → get_or (unpack bs) a 0 ≡ even_at (get_or (first_chunks 9 (length bs / 9) bs) (a / 2) x) 0
-  get_or-even x z = let e : a ≡ a / 2 * 2 = omega arith in ap (λ n. get_or (unpack bs) n 0) e ∙ (reads-pair bs (a / 2) (length bs / 9) x (omega arith) (omega arith)).0
+  get_or-even x z = let e : a ≡ 2 * (a / 2) = omega arith in ap (λ n. get_or (unpack bs) n 0) e ∙ (reads-pair bs (a / 2) (length bs / 9) x (omega arith) (omega arith)).0
 
   pub get_or-odd : (x : List ℕ) → (a % 2 ≡ 0 → ⊥) → get_or (unpack bs) a 0 ≡ odd_at (get_or (first_chunks 9 (length bs / 9) bs) (a / 2) x) 0
-  get_or-odd x z = let e : a ≡ a / 2 * 2 + 1 = omega arith in ap (λ n. get_or (unpack bs) n 0) e ∙ (reads-pair bs (a / 2) (length bs / 9) x (omega arith) (omega arith)).1
+  get_or-odd x z = let e : a ≡ suc (2 * (a / 2)) = omega arith in ap (λ n. get_or (unpack bs) n 0) e ∙ (reads-pair bs (a / 2) (length bs / 9) x (omega arith) (omega arith)).1
 
   -- the five bytes of a word, written in a row as the last ones of eight
   module _ (w n k : ℕ) (eight five : List ℕ) (m : w < 2 ^ 36) (k-5 : k ≡ 5) (last : five ≡ take 5 (drop 3 eight)) (all : eight ≡ to_be_bytes w64 n) where
@@ -143,10 +133,10 @@ module _ (bs : List ℕ) (a : ℕ) (in' : a < 2 * (length bs / 9)) where
   unpack-put_word w m =
       ⊎_elim
       (λ (z : a % 2 ≡ 0).
-      let e : a / 2 * 2 ≡ a = omega arith in
+      let e : 2 * (a / 2) ≡ a = omega arith in
       ap unpack (cond-true (eqb (a % 2) 0) _ _ (eq-eqb (a % 2) 0 z)) ∙ (puts-pair bs (a / 2) w m (omega arith)).0 ∙ ap (λ n. set (unpack bs) n w) e)
       (λ (z : a % 2 ≡ 0 → ⊥).
-      let e : a / 2 * 2 + 1 ≡ a = omega arith in
+      let e : suc (2 * (a / 2)) ≡ a = omega arith in
       ap unpack (cond-false (eqb (a % 2) 0) _ _ (ne_eqb (a % 2) 0 z)) ∙ (puts-pair bs (a / 2) w m (omega arith)).1 ∙ ap (λ n. set (unpack bs) n w) e)
       (cases_eq (a % 2) 0)
 

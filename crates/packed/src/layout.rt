@@ -12,7 +12,8 @@ fn even_word(pair: &[u8; 9]) -> u64
     u64::from_be_bytes([0, 0, 0, a, b, c, d, e]) / 0x10
 }
 
-/// The second: the low half of the fifth byte and the four after it.
+/// The second: the low half of the fifth byte and the four after it. The two differ in which half of the shared byte
+/// is theirs.
 #[tactic(auto, unfolding(crate::specs::Layout::odd))]
 fn odd_word(pair: &[u8; 9]) -> u64
     ensures { result ≡ odd_at pair.now 0 }
@@ -40,7 +41,8 @@ pub(crate) fn put_word(bytes: &mut [u8], a: u64, w: u64)
     requires { (a < 2 * (length bytes.old / 9)) × (w < 2 ^ 36) }
     ensures { bytes.new ≡ put_word bytes.old a w }
 {
-    // By index, since the contract of `as_chunks_mut` does not say what the bytes are in the end.
+    // By index, since the contract of `as_chunks_mut` does not say what the bytes are in the end, and one chunk alone,
+    // by `first_chunk_mut`, would be no shorter.
     let p = (a / 2 * 9) as usize;
     let shared = u64::from(bytes[p + 4]);
     if a % 2 == 0 {

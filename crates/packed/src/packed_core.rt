@@ -46,9 +46,7 @@ impl<'a> Core for PackedCore<'a> {
     }
 
     fn read(&self, a: u64) -> Result<u64, Refusal> {
-        if a >= self.len() {
-            return Err(Refusal::AddressOutsideCore);
-        }
+        self.check_address(a)?;
         Ok(get_word(self.bytes, a))
     }
 

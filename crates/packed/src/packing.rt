@@ -32,6 +32,7 @@ pub fn pack(words: &[u64], bytes: &mut [u8]) -> Result<(), PackingError>
     if !all_words(words) {
         return Err(PackingError::NotAWord);
     }
+    // Word by word: where a word lies among the bytes is said in `layout` alone.
     for (k, &w) in words.iter().enumerate() {
         put_word(bytes, k as u64, w);
     }
@@ -49,6 +50,7 @@ pub fn unpack(bytes: &[u8], words: &mut [u64]) -> Result<(), PackingError>
     if words.len() != bytes.len() / 9 * 2 {
         return Err(PackingError::WrongLength);
     }
+    // Word by word, as above.
     for (k, word) in words.iter_mut().enumerate() {
         *word = get_word(bytes, k as u64);
     }

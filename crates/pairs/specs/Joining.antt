@@ -1,4 +1,4 @@
--- A joined core: the words of one core and then those of another, cut at 262,144.
+-- A joined core: the high part begins where the low one ends, and all is cut at 262,144.
 use Rattle.std.specs.Prelude.{ℕ, ◌-◌, ◌<◌, ◌≤◌, List, ◌++◌, length, refl}
 use Rattle.memory.specs.Cut.{cut, over, narrow_cut}
 use Rattle.std.proofs.lemmas.List.{get_or_append_left, get_or-append_right}

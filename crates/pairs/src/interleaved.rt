@@ -13,7 +13,7 @@ pub struct Interleaved<L, R> {
 }
 
 impl<L: Core, R: Core> Interleaved<L, R> {
-    /// Interleaves two cores, as far as the shorter reaches. What the longer has beyond that, and what
+    /// Interleaves two cores up to the end of the shorter. What the longer has beyond that, and what
     /// lies past the first 262,144 words, is left over.
     pub fn new(even: L, odd: R) -> Interleaved<L, R>
         ensures { (result.even ≡ even) × (result.odd ≡ odd) }
@@ -48,9 +48,7 @@ impl<L: Core, R: Core> Core for Interleaved<L, R> {
     }
 
     fn read(&self, a: u64) -> Result<u64, Refusal> {
-        if a >= self.len() {
-            return Err(Refusal::AddressOutsideCore);
-        }
+        self.check_address(a)?;
         if a % 2 == 0 {
             self.even.read(a / 2)
         } else {

@@ -5,7 +5,7 @@ ghost use Rattle.std.specs.Prelude.{◌≡◌, ℕ, List, ◌++◌};
 use memory::{CORE_LIMIT, Core};
 use words::Refusal;
 
-/// The words of one core and then those of another.
+/// Two cores as one: the high part begins where the low one ends.
 #[derive(Drop)]
 pub struct Joined<L, R> {
     pub low: L,
@@ -46,6 +46,7 @@ impl<L: Core, R: Core> Core for Joined<L, R> {
     }
 
     fn read(&self, a: u64) -> Result<u64, Refusal> {
+        // Not `check_address`: the parts refuse an address past their words, so only the cut is tested here.
         if a >= CORE_LIMIT {
             return Err(Refusal::AddressOutsideCore);
         }

@@ -1,6 +1,6 @@
 -- The bits beside a sign: which are lost at the left, and what comes in there.
 use Rattle.std.proofs.Common.{◌≡◌, ℕ, ◌+◌, ◌-◌, ◌*◌, ◌/◌, ◌%◌, ◌^◌, ◌<◌, ◌≤◌, Bool, true, false, cond, not, eqb, sym, ap, ◌∙◌, subst, ap₂, ⊎_elim, mul-le-mul_right, mul_comm, add-mul, zero-mul, arith, pow_mono}
-use Rattle.shifts.proofs.Powers.{past-right}
+use Rattle.shifts.proofs.Powers.{far-below, past-right}
 use Rattle.shifts.specs.Arithmetic.{moved_beside, overflows}
 use Rattle.shifts.specs.declared.distances.Distance.{Distance}
 use Rattle.shifts.specs.declared.distances.Distance.TheVariants.{Left, Right}
@@ -33,8 +33,8 @@ all-signs-fit m d p L e r h =
     omega arith
 
 -- to the left, within the width: the bits that would be lost are looked at before they are
-pub lost-few : (m n width : ℕ) (minus : Bool) (lost signs : ℕ) → n ≤ width → lost ≡ m / 2 ^ (width - n) → signs ≡ cond minus (2 ^ n - 1) 0 → not (eqb lost signs) ≡ overflows width minus m (Left n)
-lost-few m n width minus lost signs l p e = ap₂ (λ (x y : ℕ). not (eqb x y)) (p ∙ sym (lost-is m n width l)) e
+pub lost_few : (m n width : ℕ) (minus : Bool) (lost signs : ℕ) → n ≤ width → lost ≡ m / 2 ^ (width - n) → signs ≡ cond minus (2 ^ n - 1) 0 → not (eqb lost signs) ≡ overflows width minus m (Left n)
+lost_few m n width minus lost signs l p e = ap₂ (λ (x y : ℕ). not (eqb x y)) (p ∙ sym (lost-is m n width l)) e
 
 -- past the width a 0 is lost that came in at the right
 past-minus : (m n width : ℕ) → m < 2 ^ width → width < n → true ≡ overflows width true m (Left n)
@@ -56,11 +56,13 @@ past-plus m n width l =
     ap not (ne_eqb m 0 z ∙ sym (ne_eqb (m * 2 ^ n / 2 ^ width) 0 (λ f. omega arith))))
     (cases_eq m 0)
 
-pub lost-minus : (m n width : ℕ) (minus : Bool) → m < 2 ^ width → width < n → minus ≡ true → minus ≡ overflows width minus m (Left n)
-lost-minus m n width minus h l e = rw e (past-minus m n width h l)
+pub lost_minus : (m n width : ℕ) (minus : Bool) → m < 2 ^ width → width < n → minus ≡ true → minus ≡ overflows width minus m (Left n)
+lost_minus m n width minus h l e = rw e (past-minus m n width h l)
 
-pub lost-plus : (m n width : ℕ) (minus : Bool) → width < n → minus ≡ false → not (eqb m 0) ≡ overflows width minus m (Left n)
-lost-plus m n width minus l e = rw e (past-plus m n width l)
+pub lost_plus : (m n width : ℕ) (minus : Bool) → width < n → minus ≡ false → not (eqb m 0) ≡ overflows width minus m (Left n)
+lost_plus m n width minus l e = rw e (past-plus m n width l)
+
+pub ruleset lost = (lost_few, lost_minus, lost_plus)
 
 -- to the right, bits equal to the sign come in
 pub moved-in : (n width : ℕ) (minus : Bool) (all rest : ℕ) → all ≡ cond minus (2 ^ width - 1) 0 → rest ≡ cond minus (2 ^ (width - n) - 1) 0 → (rest ≤ all) × (all - rest ≡ cond minus (2 ^ width - 2 ^ (width - n)) 0)
@@ -87,8 +89,23 @@ moved-below width true m (Right n) h =
     (cases_lt width n)
 
 -- what stays of the number, and the bits that come in beside it
-pub right-parts : (m n width : ℕ) (minus : Bool) (k all rest kept : ℕ) → m < 2 ^ width → all ≡ cond minus (2 ^ width - 1) 0 → k ≡ width - n → rest ≡ cond minus (2 ^ k - 1) 0 → kept ≡ m / 2 ^ n → (kept + (all - rest) ≡ moved_beside width minus m (Right n)) × (kept + (all - rest) < 2 ^ width)
+right-parts : (m n width : ℕ) (minus : Bool) (k all rest kept : ℕ) → m < 2 ^ width → all ≡ cond minus (2 ^ width - 1) 0 → k ≡ width - n → rest ≡ cond minus (2 ^ k - 1) 0 → kept ≡ m / 2 ^ n → (kept + (all - rest) ≡ moved_beside width minus m (Right n)) × (kept + (all - rest) < 2 ^ width)
 right-parts m n width minus k all rest kept h p e q r =
     let i = moved-in n width minus all rest p (q ∙ ap (λ (x : ℕ). cond minus (2 ^ x - 1) 0) e) in
     let s : kept + (all - rest) ≡ moved_beside width minus m (Right n) = ap₂ (λ (x y : ℕ). x + y) r i.1 in
     (s, subst (λ (x : ℕ). x < 2 ^ width) (sym s) (moved-below width minus m (Right n) h))
+
+module _ (m n width : ℕ) (minus : Bool) (k all rest kept : ℕ) (h : m < 2 ^ width) (p : all ≡ cond minus (2 ^ width - 1) 0) (e : k ≡ width - n) (q : rest ≡ cond minus (2 ^ k - 1) 0) where
+  pub right_within : rest ≤ all
+  right_within = (moved-in n width minus all rest p (q ∙ ap (λ (x : ℕ). cond minus (2 ^ x - 1) 0) e)).0
+
+  pub right_is : kept ≡ m / 2 ^ n → kept + (all - rest) ≡ moved_beside width minus m (Right n)
+  right_is r = (right-parts m n width minus k all rest kept h p e q r).0
+
+  pub right_narrow : kept ≡ m / 2 ^ n → kept + (all - rest) < 2 ^ width
+  right_narrow r = (right-parts m n width minus k all rest kept h p e q r).1
+
+  pub right_fits : width ≤ 72 → kept ≡ m / 2 ^ n → kept + (all - rest) < 2 ^ 128
+  right_fits w r = omega (arith, far-below (kept + (all - rest)) width w (right_narrow r))
+
+pub ruleset right_parts = (right_within, right_is, right_narrow, right_fits)

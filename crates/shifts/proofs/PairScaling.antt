@@ -16,8 +16,8 @@ held a m h =
     let s : beside (sign_bit a + m / 2 ^ 35) (sign_bit a + m % 2 ^ 35) ≡ m = omega arith in
     ap₂ (valued 70) (sign-stays a (m / 2 ^ 35) (omega arith)) s
 
-pub arithmetic_pair-scales : (a b e : ℕ) (r : ℕ × ℕ × Bool) → r ≡ under_sign a (moved_beside 70 (negative a) (beside a b) (distance_of e)) (overflows 70 (negative a) (beside a b) (distance_of e)) → ArithmeticPairScales a b e r
-arithmetic_pair-scales a b e r v =
+pub arithmetic_pair_scales : (a b e : ℕ) (r : ℕ × ℕ × Bool) → r ≡ under_sign a (moved_beside 70 (negative a) (beside a b) (distance_of e)) (overflows 70 (negative a) (beside a b) (distance_of e)) → ArithmeticPairScales a b e r
+arithmetic_pair_scales a b e r v =
     let d = distance_of e in
     let h = beside-below a b in
     let m = moved_beside 70 (negative a) (beside a b) d in

@@ -12,5 +12,5 @@ pub halves-paired : (a b : ℕ) → halves (paired a b) ≡ (a % 2 ^ 36, b % 2 ^
 halves-paired a b = ap₂ (λ (x y : ℕ). (x, y)) (omega arith) (omega arith)
 
 -- to cut the words first changes nothing
-pub paired-low : (a b : ℕ) {p : ℕ × ℕ} → p ≡ (a % 2 ^ 36, b % 2 ^ 36) → paired p.0 p.1 ≡ paired a b
-paired-low a b e = ap (λ (q : ℕ × ℕ). paired q.0 q.1) e ∙ omega arith
+pub paired_low : (a b : ℕ) {p : ℕ × ℕ} → p ≡ (a % 2 ^ 36, b % 2 ^ 36) → paired p.0 p.1 ≡ paired a b
+paired_low a b e = ap (λ (q : ℕ × ℕ). paired q.0 q.1) e ∙ omega arith

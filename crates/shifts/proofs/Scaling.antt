@@ -118,8 +118,8 @@ sign-stays w m h =
     (λ (l : 2 ^ 35 ≤ w % 2 ^ 36). le-leb (2 ^ 35) ((sign_bit w + m) % 2 ^ 36) (omega arith) ∙ sym (le-leb (2 ^ 35) (w % 2 ^ 36) l))
     (cases_lt (w % 2 ^ 36) (2 ^ 35))
 
-pub arithmetic-scales : (w e : ℕ) (r : ℕ × Bool) → r ≡ (sign_bit w + moved_beside 35 (negative w) (w % 2 ^ 35) (distance_of e), overflows 35 (negative w) (w % 2 ^ 35) (distance_of e)) → ArithmeticScales w e r
-arithmetic-scales w e r v =
+pub arithmetic_scales : (w e : ℕ) (r : ℕ × Bool) → r ≡ (sign_bit w + moved_beside 35 (negative w) (w % 2 ^ 35) (distance_of e), overflows 35 (negative w) (w % 2 ^ 35) (distance_of e)) → ArithmeticScales w e r
+arithmetic_scales w e r v =
     let d = distance_of e in
     let h : w % 2 ^ 35 < 2 ^ 35 = omega arith in
     let m = moved_beside 35 (negative w) (w % 2 ^ 35) d in

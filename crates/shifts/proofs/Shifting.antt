@@ -1,7 +1,7 @@
 -- A logical shift keeps the width, and the same shift back gives what did not pass the end.
 use Rattle.std.proofs.Common.{◌≡◌, ℕ, ◌+◌, ◌-◌, ◌*◌, ◌/◌, ◌%◌, ◌^◌, ◌<◌, ◌≤◌, sym, ap, ◌∙◌, subst, ⊎_elim, mod-eq_of_lt, mul-one, div-one, arith}
 use Rattle.shifts.proofs.Directions.{Opposed, left-right, right-left, left-still, right-still, opposed}
-use Rattle.shifts.proofs.Pairing.{paired-below, paired-halves}
+use Rattle.shifts.proofs.Pairing.{paired_low, paired-below, paired-halves}
 use Rattle.shifts.proofs.Powers.{past-left, shl-mod}
 use Rattle.shifts.specs.Distance.{distance_of, opposite}
 use Rattle.shifts.specs.Logical.{shifted, kept, logical, logical_pair, LogicalThereAndBack, LogicalPairThereAndBack}
@@ -34,16 +34,18 @@ shifted_back width m h (right-left n) = mod-eq_of_lt (omega (arith, shr_split m 
 shifted_back width m h left-still = let e : m % 2 ^ width ≡ m = mod-eq_of_lt h in simp (mul-one, sub-zero, e)
 shifted_back width m h right-still = simp (div-one, mul-one)
 
-pub logical-back : (w e r : ℕ) → r ≡ shifted 36 (w % 2 ^ 36) (distance_of e) → LogicalThereAndBack w e r
+pub logical_back : (w e r : ℕ) → r ≡ shifted 36 (w % 2 ^ 36) (distance_of e) → LogicalThereAndBack w e r
 unfolding logical
-logical-back w e r v =
+logical_back w e r v =
     let h : w % 2 ^ 36 < 2 ^ 36 = omega arith in
     let same : r % 2 ^ 36 ≡ r = mod-eq_of_lt (subst (λ (x : ℕ). x < 2 ^ 36) (sym v) (shifted-below 36 (w % 2 ^ 36) (distance_of e) h)) in
     ap (λ (x : ℕ). shifted 36 x (distance_of (opposite e))) (same ∙ v) ∙ shifted_back 36 (w % 2 ^ 36) h (opposed e)
 
-pub logical_pair-back : (a b e : ℕ) (r : ℕ × ℕ) → r ≡ halves (shifted 72 (paired a b) (distance_of e)) → LogicalPairThereAndBack a b e r
+-- x and y are the two words that are shifted, and r and s what they become
+pub logical_pair_back : (a b e x y r s : ℕ) → ◌≡◌ {A = ℕ × ℕ} (x, y) (a % 2 ^ 36, b % 2 ^ 36) → ◌≡◌ {A = ℕ × ℕ} (r, s) (halves (shifted 72 (paired x y) (distance_of e))) → LogicalPairThereAndBack a b e (r, s)
 unfolding logical_pair
-logical_pair-back a b e r v =
+logical_pair_back a b e x y r s u w =
+    let v = w ∙ ap (λ (m : ℕ). halves (shifted 72 m (distance_of e))) (paired_low a b u) in
     let h = paired-below a b in
     let m = shifted 72 (paired a b) (distance_of e) in
     let same : paired (halves m).0 (halves m).1 ≡ m = paired-halves m (shifted-below 72 (paired a b) (distance_of e) h) in

@@ -1,8 +1,8 @@
 -- A rotation keeps the width, and the same rotation back gives the number again.
 use Rattle.std.proofs.Common.{◌≡◌, ℕ, ◌+◌, ◌-◌, ◌*◌, ◌/◌, ◌%◌, ◌^◌, ◌<◌, ◌≤◌, sym, ap, ◌∙◌, subst, ap₂, add-zero, mod-eq_of_lt, mul_comm, add_comm, zero-add, zero-mul, mul-one, div-one, arith}
 use Rattle.shifts.proofs.Directions.{Opposed, left-right, right-left, left-still, right-still, opposed}
-use Rattle.shifts.proofs.Pairing.{paired-below, paired-halves, halves-paired}
-use Rattle.shifts.proofs.Powers.{shl-low}
+use Rattle.shifts.proofs.Pairing.{paired_low, paired-below, paired-halves, halves-paired}
+use Rattle.shifts.proofs.Powers.{far-below, shl-low}
 use Rattle.shifts.specs.Distance.{distance_of, opposite}
 use Rattle.shifts.specs.Pair.{paired, halves}
 use Rattle.shifts.specs.Rotations.{exchanged, turned, rotated, rotated_pair, RotatedThereAndBack, RotatedPairThereAndBack}
@@ -25,11 +25,22 @@ exchanged-back j k m h =
     ap₂ (λ (x y : ℕ). x * 2 ^ j + y) (mod_low (m % 2 ^ j) k (m / 2 ^ j) l) (shr_high (m % 2 ^ j) k (m / 2 ^ j) l) ∙ shr_split m j
 
 -- what passes the left end, and the rest
-pub turned-parts : (m n width l r : ℕ) → n ≤ width → m < 2 ^ width → l ≡ m * 2 ^ n % 2 ^ width → r ≡ m / 2 ^ (width - n) → (l + r ≡ exchanged (width - n) n m) × (l + r < 2 ^ width)
+turned-parts : (m n width l r : ℕ) → n ≤ width → m < 2 ^ width → l ≡ m * 2 ^ n % 2 ^ width → r ≡ m / 2 ^ (width - n) → (l + r ≡ exchanged (width - n) n m) × (l + r < 2 ^ width)
 turned-parts m n width l r k h p q =
     let s : (width - n) + n ≡ width = omega arith in
     let e : l + r ≡ exchanged (width - n) n m = ap₂ (λ (x y : ℕ). x + y) (p ∙ shl-low m n width k) q in
     (e, subst (λ (x : ℕ). x < 2 ^ width) (sym e) (subst (λ (x : ℕ). exchanged (width - n) n m < 2 ^ x) s (exchanged-below (width - n) n m (subst (λ (x : ℕ). m < 2 ^ x) (sym s) h))))
+
+pub turned_is : (m n width l r : ℕ) → n ≤ width → m < 2 ^ width → l ≡ m * 2 ^ n % 2 ^ width → r ≡ m / 2 ^ (width - n) → l + r ≡ exchanged (width - n) n m
+turned_is m n width l r k h p q = (turned-parts m n width l r k h p q).0
+
+pub turned_narrow : (m n width l r : ℕ) → n ≤ width → m < 2 ^ width → l ≡ m * 2 ^ n % 2 ^ width → r ≡ m / 2 ^ (width - n) → l + r < 2 ^ width
+turned_narrow m n width l r k h p q = (turned-parts m n width l r k h p q).1
+
+pub turned_fits : (m n width l r : ℕ) → width ≤ 72 → n ≤ width → m < 2 ^ width → l ≡ m * 2 ^ n % 2 ^ width → r ≡ m / 2 ^ (width - n) → l + r < 2 ^ 128
+turned_fits m n width l r w k h p q = omega (arith, far-below (l + r) width w (turned_narrow m n width l r k h p q))
+
+pub ruleset turned_parts = (turned_is, turned_narrow, turned_fits)
 
 -- the two parts that change places make up the number
 parts : (n width : ℕ) → 0 < width → (width - n % width) + n % width ≡ width
@@ -61,16 +72,18 @@ turned-back width m p h (right-left n) = exchanged-back (n % width) (width - n %
 turned-back width m p h left-still = ap (λ (x : ℕ). turned width x (Left 0)) (still-left width m h) ∙ still-left width m h
 turned-back width m p h right-still = ap (λ (x : ℕ). turned width x (Right 0)) (still-right width m) ∙ still-right width m
 
-pub rotated-back : (w e r : ℕ) → r ≡ turned 36 (w % 2 ^ 36) (distance_of e) → RotatedThereAndBack w e r
+pub rotated_back : (w e r : ℕ) → r ≡ turned 36 (w % 2 ^ 36) (distance_of e) → RotatedThereAndBack w e r
 unfolding rotated
-rotated-back w e r v =
+rotated_back w e r v =
     let h : w % 2 ^ 36 < 2 ^ 36 = omega arith in
     let same : r % 2 ^ 36 ≡ r = mod-eq_of_lt (subst (λ (x : ℕ). x < 2 ^ 36) (sym v) (turned-below 36 (w % 2 ^ 36) (distance_of e) (omega arith) h)) in
     ap (λ (x : ℕ). turned 36 x (distance_of (opposite e))) (same ∙ v) ∙ turned-back 36 (w % 2 ^ 36) (omega arith) h (opposed e)
 
-pub rotated_pair-back : (a b e : ℕ) (r : ℕ × ℕ) → r ≡ halves (turned 72 (paired a b) (distance_of e)) → RotatedPairThereAndBack a b e r
+-- x and y are the two words that are turned, and r and s what they become
+pub rotated_pair_back : (a b e x y r s : ℕ) → ◌≡◌ {A = ℕ × ℕ} (x, y) (a % 2 ^ 36, b % 2 ^ 36) → ◌≡◌ {A = ℕ × ℕ} (r, s) (halves (turned 72 (paired x y) (distance_of e))) → RotatedPairThereAndBack a b e (r, s)
 unfolding rotated_pair
-rotated_pair-back a b e r v =
+rotated_pair_back a b e x y r s u w =
+    let v = w ∙ ap (λ (m : ℕ). halves (turned 72 m (distance_of e))) (paired_low a b u) in
     let h = paired-below a b in
     let m = turned 72 (paired a b) (distance_of e) in
     let same : paired (halves m).0 (halves m).1 ≡ m = paired-halves m (turned-below 72 (paired a b) (distance_of e) (omega arith) h) in

@@ -1,6 +1,7 @@
 -- The zeros ahead of a word's first 1, counted in 36 bits and in 64.
-use Rattle.std.proofs.Common.{◌≡◌, ℕ, suc, ◌+◌, ◌-◌, ◌%◌, ◌^◌, ◌<◌, ◌≤◌, eqb, sym, subst, arith}
+use Rattle.std.proofs.Common.{◌≡◌, ℕ, suc, ◌+◌, ◌-◌, ◌%◌, ◌^◌, ◌<◌, ◌≤◌, eqb, sym, refl, subst, arith}
 use Rattle.shifts.specs.Leading.{zeros_ahead}
+use Rattle.shifts.specs.Specimens.{LeadingSpecimens}
 use Rattle.std.proofs.lemmas.Nat.{leading_length, leading_top}
 use Rattle.std.specs.Int.Count.{leading_unique}
 use Rattle.std.proofs.lemmas.Bool.{cond-false, ne_eqb}
@@ -23,3 +24,7 @@ first-stands n r p h e =
     let i : s.0 ≡ 35 - r = omega arith in
     let j : suc s.0 ≡ 36 - r = omega arith in
     (subst (λ (x : ℕ). 2 ^ x ≤ n) i s.2, subst (λ (x : ℕ). n < 2 ^ x) j s.3)
+
+pub specimens : LeadingSpecimens
+unfolding zeros_ahead count_leading_zeros
+specimens = (refl, refl, refl)

@@ -12,7 +12,7 @@ use words::{SIGN_BIT, is_negative};
 
 /// ASH: the word's signed value multiplied or divided by a power of two, and Overflow, as an `overflowing_` method gives
 /// them: the word holds whatever the flag says.
-#[tactic(auto, unfolding(crate::specs::Arithmetic::arithmetic, crate::specs::Distance::distance_of))]
+#[tactic(auto, using(crate::proofs::Scaling::arithmetic_scales), unfolding(crate::specs::Arithmetic::arithmetic, crate::specs::Distance::distance_of))]
 pub fn ash(w: u64, e: u64) -> (u64, bool)
     ensures value { result ≡ arithmetic w e }
     ensures narrow { result.0 < 2 ^ 36 }
@@ -26,9 +26,9 @@ pub fn ash(w: u64, e: u64) -> (u64, bool)
     (sign_bit(w) + moved.number as u64, overflow)
 }
 
-/// ASHC: the signed value of the two words multiplied or divided by a power of two, and Overflow.
+/// ASHC: the signed value of the two words multiplied or divided by a power of two, and Overflow, as `ash` gives them.
 /// The value leaves out bit 0 of the second word, which any move makes equal to bit 0 of the first.
-#[tactic(auto, unfolding(crate::specs::Arithmetic::arithmetic_pair, crate::specs::Distance::distance_of))]
+#[tactic(auto, using(crate::proofs::PairScaling::arithmetic_pair_scales), unfolding(crate::specs::Arithmetic::arithmetic_pair, crate::specs::Distance::distance_of))]
 pub fn ashc(a: u64, b: u64, e: u64) -> (WordPair, bool)
     ensures value { words_and_overflow result ≡ arithmetic_pair a b e }
     ensures sign { SignShared a e (words_and_overflow result) }

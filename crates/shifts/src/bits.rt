@@ -35,7 +35,7 @@ impl<const WIDTH: u64> Bits<WIDTH> {
         }
     }
 
-    /// Past the width nothing is left, and the processor's own shift would not say so.
+    /// Past the width nothing is left; `unbounded_shl` says so too, but counts in u32.
     fn shift_left(&self, n: u64) -> Self
         ensures { result.number ≡ self.now.number * 2 ^ n % 2 ^ WIDTH }
     {
@@ -62,6 +62,7 @@ impl<const WIDTH: u64> Bits<WIDTH> {
     }
 
     /// What passes the left end comes in at the right.
+    #[tactic(auto, using(crate::proofs::Turning::turned_parts))]
     fn turn_left(&self, n: u64) -> Self
         requires { n ≤ WIDTH }
         ensures { result.number ≡ exchanged (WIDTH - n) n self.now.number }
@@ -71,7 +72,7 @@ impl<const WIDTH: u64> Bits<WIDTH> {
         }
     }
 
-    /// The bits beside a sign moved, and Overflow.
+    /// The bits beside a sign moved, and Overflow, which come as a pair as from `ash`.
     pub(crate) fn move_beside(&self, minus: bool, by: Distance) -> (Self, bool)
         ensures moved { result.0.number ≡ moved_beside WIDTH minus self.now.number by }
         ensures overflow { result.1 ≡ overflows WIDTH minus self.now.number by }
@@ -83,6 +84,7 @@ impl<const WIDTH: u64> Bits<WIDTH> {
     }
 
     /// Whether a bit that differs from the sign is lost to the left.
+    #[tactic(auto, using(crate::proofs::Beside::lost))]
     fn loses(&self, minus: bool, n: u64) -> bool
         ensures { result ≡ overflows WIDTH minus self.now.number (Left n) }
     {
@@ -95,6 +97,7 @@ impl<const WIDTH: u64> Bits<WIDTH> {
     }
 
     /// To the right, with the sign in the places that fall empty.
+    #[tactic(auto, using(crate::proofs::Beside::right_parts))]
     fn move_right(&self, minus: bool, n: u64) -> Self
         ensures { result.number ≡ moved_beside WIDTH minus self.now.number (Right n) }
     {

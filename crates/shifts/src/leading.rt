@@ -5,7 +5,7 @@ ghost use Rattle.shifts.specs.Specimens.{LeadingSpecimens};
 use words::WORD_LIMIT;
 
 /// JFFO: how many 0s stand to the left of the word's first 1, and 0 where the word has no 1.
-#[tactic(auto, unfolding(crate::specs::Leading::zeros_ahead))]
+#[tactic(auto, using(crate::proofs::Zeros::specimens), unfolding(crate::specs::Leading::zeros_ahead))]
 pub fn first_one(w: u64) -> u64
     ensures value { result ≡ zeros_ahead w }
     ensures within { result < 36 }

@@ -29,10 +29,10 @@ mod tests {
         assert_eq!(rt; lsh(0o777777_777777, 0o777756), 0o777777);
         assert_eq!(rt; rot(1, 0o777777), 0o400000_000000);
         assert_eq!(rt; first_one(1), 0o43);
-        let (least, fits) = ash(0o777777_777777, 35);
+        let (least, lost) = ash(0o777777_777777, 35);
         let (same, overflow) = ash(0o777777_777777, 36);
         assert_eq!(rt; least, same);
-        assert!(rt; !fits && overflow);
+        assert!(rt; !lost && overflow);
     }
 
     #[test]

@@ -9,7 +9,7 @@ use crate::effective_address::distance;
 use crate::pair::WordPair;
 
 /// LSH: the word moved, with 0s in the places that fall empty.
-#[tactic(auto, unfolding(crate::specs::Logical::logical, crate::specs::Distance::distance_of))]
+#[tactic(auto, using(crate::proofs::Shifting::logical_back), unfolding(crate::specs::Logical::logical, crate::specs::Distance::distance_of))]
 pub fn lsh(w: u64, e: u64) -> u64
     ensures value { result ≡ logical w e }
     ensures narrow { result < 2 ^ 36 }
@@ -21,7 +21,7 @@ pub fn lsh(w: u64, e: u64) -> u64
 }
 
 /// LSHC: the two words moved as one number of 72 bits, with 0s in the places that fall empty.
-#[tactic(auto, unfolding(crate::specs::Logical::logical_pair, crate::specs::Distance::distance_of))]
+#[tactic(auto, using(crate::proofs::Shifting::logical_pair_back), unfolding(crate::specs::Logical::logical_pair, crate::specs::Distance::distance_of))]
 pub fn lshc(a: u64, b: u64, e: u64) -> WordPair
     ensures value { words_of result ≡ logical_pair a b e }
     ensures back { LogicalPairThereAndBack a b e (words_of result) }

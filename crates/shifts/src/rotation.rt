@@ -9,7 +9,7 @@ use crate::effective_address::distance;
 use crate::pair::WordPair;
 
 /// ROT: the word turned in itself.
-#[tactic(auto, unfolding(crate::specs::Rotations::rotated, crate::specs::Distance::distance_of))]
+#[tactic(auto, using(crate::proofs::Turning::rotated_back), unfolding(crate::specs::Rotations::rotated, crate::specs::Distance::distance_of))]
 pub fn rot(w: u64, e: u64) -> u64
     ensures value { result ≡ rotated w e }
     ensures narrow { result < 2 ^ 36 }
@@ -21,7 +21,7 @@ pub fn rot(w: u64, e: u64) -> u64
 }
 
 /// ROTC: the two words turned as one number of 72 bits.
-#[tactic(auto, unfolding(crate::specs::Rotations::rotated_pair, crate::specs::Distance::distance_of))]
+#[tactic(auto, using(crate::proofs::Turning::rotated_pair_back), unfolding(crate::specs::Rotations::rotated_pair, crate::specs::Distance::distance_of))]
 pub fn rotc(a: u64, b: u64, e: u64) -> WordPair
     ensures value { words_of result ≡ rotated_pair a b e }
     ensures back { RotatedPairThereAndBack a b e (words_of result) }

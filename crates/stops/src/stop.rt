@@ -7,7 +7,8 @@ use std::fmt;
 /// Why a run ended.
 #[derive(Clone, Copy, PartialEq, Eq, Debug)]
 pub enum Stop {
-    /// All the steps that were asked for are done.
+    /// All the steps that were asked for are done. A case of its own and no `Option`: its number and its state are rows
+    /// of the same tables.
     StepsDone,
     /// The program made this monitor call.
     MonitorCall(u64),
@@ -78,6 +79,7 @@ impl Stop {
     }
 }
 
+// Written out, since a derived `Display` does not state its words.
 impl fmt::Display for Stop {
     ghost output = { λ stop. Some (stop_text stop) };
 

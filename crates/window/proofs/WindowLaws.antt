@@ -40,9 +40,9 @@ module _ (s : Span) (ws vs : List ℕ) (a w : ℕ) (r : Result (Unit {0}) Refusa
   unseen-window = unseen s ws vs (before-window s.from s.count ws a l w vs r did) (after-window s.from s.count ws a l w vs r did)
 
 -- a core has no address from 262,144 on, so a window that is cut there sees what the whole one would
-pub window-cut : (f n : ℕ) (ws : List ℕ) → length ws ≤ 262144 → window_of (min f 262144) (min n (262144 - min f 262144)) ws ≡ window_of f n ws
+pub window_cut : (f n : ℕ) (ws : List ℕ) → length ws ≤ 262144 → window_of (min f 262144) (min n (262144 - min f 262144)) ws ≡ window_of f n ws
 unfolding window_of
-window-cut f n ws h =
+window_cut f n ws h =
     ⊎_elim
     (λ (l : f < 262144).
     let e : min f 262144 ≡ f = omega arith in

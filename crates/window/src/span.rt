@@ -16,6 +16,7 @@ pub struct Span {
 impl Span {
     /// The span of `count` addresses from `from` on, cut where no core has an address: of every core it takes the
     /// same words as the whole one would.
+    #[tactic(auto, using(crate::proofs::WindowLaws::window_cut))]
     pub fn new(from: u64, count: u64) -> Span
         ensures start { result.from ≡ min from 262144 }
         ensures size { result.count ≡ min count (262144 - result.from) }

@@ -47,6 +47,7 @@ impl<'a, C: Core> Core for Window<'a, C> {
     }
 
     fn read(&self, a: u64) -> Result<u64, Refusal> {
+        // Not `check_address`: the core refuses an address past its words, so only the span's end is tested here.
         if a >= self.span.count {
             return Err(Refusal::AddressOutsideCore);
         }

@@ -4,6 +4,9 @@ ghost use Rattle.words.specs.Word.{are_words};
 ghost use Rattle.std.specs.Prelude.{◌≡◌, ◌^◌, ◌<◌};
 
 /// One more than the greatest word: a word is a whole number below this.
+///
+/// It is a plain number and has no type of its own: a function takes the low 36 bits of any number, and a parameter of such a
+/// type would ask its callers for more.
 pub const WORD_LIMIT: u64 = 1 << 36;
 
 /// One more than the greatest half of a word, which is one more than the greatest address.
@@ -24,7 +27,7 @@ pub fn complement(w: u64) -> u64
     ensures value { result ≡ complement w }
     ensures narrow { result < 2 ^ 36 }
 {
-    WORD_LIMIT - 1 - w % WORD_LIMIT
+    !w % WORD_LIMIT
 }
 
 /// Whether bit 0 of the low 36 bits is set.

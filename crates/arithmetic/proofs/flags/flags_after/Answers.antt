@@ -4,6 +4,8 @@ use Rattle.arithmetic.specs.Flags.{flags_after}
 use mathlib.Core.Bool.{xor}
 use Rattle.std.proofs.Common.{◌≡◌, rules}
 
+-- In an answer, since the value is found with `xor` unfolded, and the attribute of the function unfolds only what
+-- this crate defines.
 pub returns : goal.returns
 unfolding flags_after xor
 returns c =

@@ -1,5 +1,5 @@
 use Rattle.std.proofs.Common.{◌≡◌, ◌%◌, ◌^◌, get_or, rules, tests, arith}
-use Rattle.decks.proofs.FromFn.{made_at}
+use Rattle.words.proofs.FromFn.{made_at}
 use Rattle.decks.proofs.beginning.accumulators.Goals as goal
 use Rattle.words.specs.Word.{narrow_within}
 

@@ -1,7 +1,7 @@
 use Rattle.std.proofs.Common.{◌≡◌, ◌+◌, ◌-◌, ◌*◌, ◌/◌, ◌%◌, ◌^◌, sym, ◌∙◌, rules, tests, arith}
 use Rattle.std.proofs.lemmas.Grind.{same_number_lists}
 use Rattle.decks.proofs.Digits.{length-octal, get_or-octal}
-use Rattle.decks.proofs.FromFn.{made_at}
+use Rattle.words.proofs.FromFn.{made_at}
 use Rattle.decks.proofs.octal.octal_digits.Goals as goal
 
 pub returns : goal.returns
