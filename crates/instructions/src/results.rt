@@ -2,6 +2,9 @@
 //!
 //! The functions from `Status` to `Status` and the makers of effects are functions and no methods: both types are of
 //! `operations`, which knows no instruction.
+//!
+//! A mode is a field of the operation, and stands beside the inputs; so does a status that has already been changed. A sum
+//! comes as `add` answers it, a tuple, so that its word is narrow is a premise of what is made of it.
 
 ghost use Rattle.std.specs.Prelude.{◌≡◌, ◌^◌, ◌<◌};
 ghost use Rattle.instructions.specs.Narrow.{NarrowEffect};

@@ -12,7 +12,8 @@ const REPLY_BYTES: usize = 24;
 /// One call may ask for so many steps.
 const MOST_STEPS: u64 = 1_000_000;
 
-/// What a caller asks for: so many steps of the program in the place of so many blocks from block `base` on.
+/// What a caller asks for: so many steps of the program in the place of so many blocks from block `base` on. `ka10_run`
+/// takes the three one by one, since that is the exported signature.
 #[derive(Clone, Copy, PartialEq, Eq, Debug)]
 pub struct Request {
     pub base: u64,

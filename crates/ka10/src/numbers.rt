@@ -12,7 +12,8 @@ pub(crate) fn read_numbers(bytes: &[u8; RECORD_BYTES]) -> [u64; 20]
     array::from_fn(|k| u64::from_be_bytes(eights[k]))
 }
 
-/// Writes numbers into a buffer that has just the room for them.
+/// Writes numbers into a buffer that has just the room for them. Its length goes with `given`, so a clause says it and no
+/// type.
 pub(crate) fn write_numbers(given: &[u64], bytes: &mut [u8])
     requires { length bytes.old ≡ 8 * length given.now }
     ensures bytes { bytes.new ≡ encoded given.now }

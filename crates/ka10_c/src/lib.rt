@@ -6,7 +6,8 @@ ghost use Rattle.ka10.specs.Calls.{lent, RunsByNumber};
 ghost use Rattle.ka10.specs.Numbers.{ReadAsWritten};
 
 /// Runs one program by bytes: up to `steps` steps of the program that `record` holds, in its place in the packed
-/// core, with what came of it in `reply`. The result is 0, or the number of the refusal, and then nothing has changed.
+/// core, with what came of it in `reply`. The result is 0, or the number of the refusal, and then nothing has changed: C
+/// knows no `Result`, so the answer goes out as a number.
 #[unsafe(no_mangle)]
 pub extern "C" fn ka10_run(
     core: &mut [u8],

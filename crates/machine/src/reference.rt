@@ -5,6 +5,8 @@ use crate::space::{ACCUMULATORS, Space};
 use memory::{BLOCK_WORDS, Core};
 use stops::Stop;
 
+// Both functions take the space and no place: what reads or writes one word leaves PC and flags alone.
+
 /// The word at user address `a`.
 #[tactic(auto, using(crate::proofs::UserLaws::user_laws))]
 pub(crate) fn read<C: Core>(core: &C, space: &Space, a: u64) -> Result<u64, Stop>

@@ -10,7 +10,8 @@ pub const CORE_LIMIT: u64 = HALF_LIMIT;
 /// A block, by which places lie in a core, has this many words.
 pub const BLOCK_WORDS: u64 = 1024;
 
-/// A memory of 36-bit words. Its meaning is a list of words, by address, whose length never changes.
+/// A memory of 36-bit words. Its meaning is a list of words, by address, whose length never changes. An address and a word
+/// are two parameters and no struct, since each may be any number.
 ///
 /// The cores over lent numbers and over lent bytes are not one generic type: they differ in how a word lies in what is
 /// lent, and their bodies say little else.

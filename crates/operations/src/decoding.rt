@@ -1,7 +1,7 @@
 //! Which instruction a word is, by its code, which is read in octal.
 //!
 //! Below `decode`, each function reads one range of codes, and several give the same type. They have names of their own,
-//! since a type has only one `From<u64>`.
+//! since a type has only one `From<u64>`. They are matches and no tables of functions: the arms take different fields.
 
 ghost use Rattle.operations.specs.Decode.{decoded, call_of, comparison_of, exchange_of, full_word_of, jrst_of, move_of, shift_of, stack_of};
 ghost use Rattle.std.specs.Prelude.{◌≡◌, ◌<◌, ◌≤◌};

@@ -1,5 +1,6 @@
 //! The shifts and rotations of the PDP-10 (KA10) on 36-bit words, and the count of leading zeros.
-//! Every function takes the low 36 bits of each word that it is given.
+//! Every function takes the low 36 bits of each word that it is given. Two words are two parameters and no `WordPair`, since
+//! each may be any number.
 
 #![tactic(auto)]
 
