@@ -1,5 +1,5 @@
 use Rattle.std.proofs.Common.{◌≡◌, ◌+◌, ◌-◌, ◌*◌, ◌<◌, length, refl, ◌∙◌, arith}
-use Rattle.ka10.proofs.Eights.{number_more, numbers-all}
+use Rattle.ka10.proofs.Eights.{number_more}
 use Rattle.ka10.proofs.numbers.write_numbers.Goals as goal
 use Rattle.ka10.specs.Numbers.{encoded}
 
@@ -15,10 +15,3 @@ loop-i-preserved c =
     let width : 8 * i + 8 - 8 * i ≡ 8 = omega arith in
     let in' : i < length ns = omega arith in
     rw width (number_more i ns c.args.bytes.now c.loop-i.bytes c.copy_from_slice.new.self in' c.loop-i.invariant (c.copy_from_slice.ensures.after ∙ c.to_be_bytes.ensures))
-
-pub returns : goal.returns
-returns c =
-    record {
-      bytes = numbers-all c.loop-i.i c.args.given.now c.args.bytes.now c.loop-i.bytes (omega arith) (omega arith) c.loop-i.invariant;
-      wide = λ k. (c.type_inv.given k).fits;
-    }
