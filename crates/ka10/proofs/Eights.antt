@@ -6,7 +6,7 @@ use Rattle.ka10.specs.declared.records.Record.{Record}
 use Rattle.std.specs.Simd.{first_chunks}
 use borrow.Rule.Slice.PartMut.{put_mid}
 use Rattle.std.proofs.lemmas.Grind.{common_steps}
-use Rattle.std.proofs.lemmas.List.{append_assoc, append-nil, get_or-append_right, drop_all, drop_at, drop-drop, length-take-le, take_all, take_at}
+use Rattle.std.proofs.lemmas.List.{append_assoc, append-nil, get_or-append_right, drop_at, drop-drop, length-take-le, take_at}
 
 -- what holds of every list shorter than eight, and of eight elements more wherever it holds, holds of every list
 by-eights : (P : List ℕ → Type 0) → ((bs : List ℕ) → length bs < 8 → P bs) → ((a b c d e f g h : ℕ) (bs : List ℕ) → P bs → P (a ∷ b ∷ c ∷ d ∷ e ∷ f ∷ g ∷ h ∷ bs)) → (bs : List ℕ) → P bs
@@ -81,10 +81,6 @@ number_more i ns before now next l e f =
     let after : 8 * i + 8 ≡ 8 * (i + 1) = omega arith in
     let rest : drop 8 (drop (8 * i) now) ≡ drop (8 * (i + 1)) before = ap (drop 8) past ∙ drop-drop 8 (8 * i) before ∙ ap (λ n. drop n before) after in
     rw (kept, rest, f) (sym (append_assoc front (encoded (get_or ns i 0 ∷ [])) (drop (8 * (i + 1)) before)) ∙ ap (λ (t : List ℕ). t ++ drop (8 * (i + 1)) before) (sym (encoded-more i ns l)))
-
--- all numbers written
-pub numbers-all : (i : ℕ) (ns before now : List ℕ) → length ns ≤ i → length before ≤ 8 * i → now ≡ encoded (take i ns) ++ drop (8 * i) before → now ≡ encoded ns
-numbers-all i ns before now l m e = e ∙ ap (λ (t : List ℕ). encoded (take i ns) ++ t) (drop_all (8 * i) before m) ∙ append-nil (encoded (take i ns)) ∙ ap encoded (take_all i ns l)
 
 -- twenty numbers after the first sixteen and then the last four were written
 pub in_turn : (a b : List ℕ) → length a ≡ 16 → put_mid 16 4 (a ++ 0 ∷ 0 ∷ 0 ∷ 0 ∷ []) b ≡ a ++ b
