@@ -5,10 +5,15 @@ use Rattle.decks.specs.declared.fault.DeckFault.{DeckFault}
 use Rattle.decks.specs.declared.fault.DeckFault.TheVariants.{NoMemory}
 use Rattle.decks.specs.declared.reader.Reader.{Reader}
 use Rattle.std.specs.declared.alloc.Global.{Global}
+use Rattle.std.specs.List.{count_by}
 
 -- the reader, where the next character is on this line
 abbrev pub reading : ℕ → Reader → Reading
 reading line r = record { line = line; words = vec_items r.words; mode = r.mode }
+
+-- how many lines end in this much of a text
+abbrev pub newlines : List ℕ → ℕ
+newlines text = count_by (λ c. c == 10) text
 
 -- the line of the character after c
 abbrev pub line_after : ℕ → ℕ → ℕ

@@ -1,5 +1,7 @@
 ghost use Rattle.decks.specs.Deck.{deck_of, Answers};
 ghost use Rattle.decks.specs.Laws.{OnlyWords, ReadsBack};
+ghost use Rattle.decks.specs.Reader.{newlines};
+ghost use Rattle.std.specs.Prelude.{◌≡◌, ◌+◌, ◌-◌, ◌^◌, min};
 
 use crate::fault::DeckError;
 use crate::reader::Reader;
@@ -15,15 +17,24 @@ pub fn read_deck(heap: Global, text: &[u8]) -> Result<Vec<u64>, DeckError>
     ensures back { ReadsBack text.now result }
 {
     let mut reader = Reader::new(heap);
-    // Counted here, and the newline goes to the reader all the same, since it ends a word.
-    let mut line = 1u64;
-    for &c in text {
-        reader.step(c).map_err(|fault| DeckError { line, fault })?;
-        if c == b'\n' {
-            // The count saturates, since a text can have as many newlines as a number can count. The last of
-            // them is the last character then, and only memory can fail after it.
-            line = line.saturating_add(1);
-        }
+    for (k, &c) in text.iter().enumerate() {
+        reader.step(c).map_err(|fault| DeckError {
+            line: line_at_end(&text[..k]),
+            fault,
+        })?;
     }
-    reader.end().map_err(|fault| DeckError { line, fault })
+    reader.end().map_err(|fault| DeckError {
+        line: line_at_end(text),
+        fault,
+    })
+}
+
+/// The line that what comes after this much of a text stands on. Only a fault asks for it, so no character is looked at
+/// for it before.
+fn line_at_end(text: &[u8]) -> u64
+    ensures { result ≡ min (newlines text.now + 1) (2 ^ 64 - 1) }
+{
+    // The sum saturates, since a text can have as many newlines as a number can count. All of it is read then, and only
+    // memory can fail.
+    (text.iter().filter(|&&c| c == b'\n').count() as u64).saturating_add(1)
 }

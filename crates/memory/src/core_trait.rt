@@ -2,7 +2,7 @@ ghost use Rattle.std.specs.Prelude.{◌≡◌, ℕ, ◌≤◌, ◌==◌, List, l
 ghost use Rattle.memory.specs.Access.{ChecksAddress, ChecksWrite, Reads, Writes};
 ghost use Rattle.words.specs.Word.{Narrow};
 
-use words::{HALF_LIMIT, Refusal, WORD_LIMIT};
+use words::{HALF_LIMIT, Refusal, check_word};
 
 /// No core has an address from here on: an address is a half of a word.
 pub const CORE_LIMIT: u64 = HALF_LIMIT;
@@ -55,14 +55,12 @@ pub trait Core {
         Ok(())
     }
 
-    /// Refuses what no core writes: a number that is no word, and then any word at an address that is not there. Every
-    /// core's `write` begins with it.
+    /// Refuses what no core writes: a number that is no word, and then any word at an address that is not there. The
+    /// `write` of a core begins with it, unless what the core is made of tests the address.
     fn check_write(&self, a: u64, w: u64) -> Result<(), Refusal>
         ensures { ChecksWrite (words self.now) a w result }
     {
-        if w >= WORD_LIMIT {
-            return Err(Refusal::NotAWord);
-        }
+        check_word(w)?;
         self.check_address(a)
     }
 

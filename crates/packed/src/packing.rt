@@ -32,9 +32,12 @@ pub fn pack(words: &[u64], bytes: &mut [u8]) -> Result<(), PackingError>
     if !all_words(words) {
         return Err(PackingError::NotAWord);
     }
-    // Word by word: where a word lies among the bytes is said in `layout` alone.
-    for (k, &w) in words.iter().enumerate() {
-        put_word(bytes, k as u64, w);
+    // Where a word lies among the bytes is said in `layout` alone. Pair by pair, since the compiler then knows of each word
+    // which of its pair it is.
+    for i in 0..words.len() / 2 {
+        let k = 2 * i;
+        put_word(bytes, k as u64, words[k]);
+        put_word(bytes, k as u64 + 1, words[k + 1]);
     }
     Ok(())
 }
@@ -50,7 +53,7 @@ pub fn unpack(bytes: &[u8], words: &mut [u64]) -> Result<(), PackingError>
     if words.len() != bytes.len() / 9 * 2 {
         return Err(PackingError::WrongLength);
     }
-    // Word by word, as above.
+    // Word by word, since reading one looks at no other.
     for (k, word) in words.iter_mut().enumerate() {
         *word = get_word(bytes, k as u64);
     }

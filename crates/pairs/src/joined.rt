@@ -3,7 +3,7 @@ ghost use Rattle.pairs.specs.Joining.{joined_words, joined_rest, narrow-joined};
 ghost use Rattle.std.specs.Prelude.{◌≡◌, ℕ, List, ◌++◌};
 
 use memory::{CORE_LIMIT, Core};
-use words::Refusal;
+use words::{Refusal, check_word};
 
 /// Two cores as one: the high part begins where the low one ends.
 #[derive(Drop)]
@@ -59,7 +59,11 @@ impl<L: Core, R: Core> Core for Joined<L, R> {
     }
 
     fn write(&mut self, a: u64, w: u64) -> Result<(), Refusal> {
-        self.check_write(a, w)?;
+        // Not `check_write`, whose test of the address asks all parts for their lengths, at each core that is a part.
+        check_word(w)?;
+        if a >= CORE_LIMIT {
+            return Err(Refusal::AddressOutsideCore);
+        }
         let n = self.low.len();
         if a < n {
             self.low.write(a, w)

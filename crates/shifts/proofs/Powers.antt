@@ -16,10 +16,10 @@ pub past-right : (m n width : ℕ) → m < 2 ^ width → width ≤ n → m / 2 ^
 past-right m n width h l = div-eq_of_lt (lt_of_lt_of_le h (pow_mono l))
 
 -- what is moved to the left in a wider register, and cut to the width there
-pub cut_shl : (m n width : ℕ) → width ≤ 128 → m * 2 ^ n % 2 ^ 128 % 2 ^ width ≡ m * 2 ^ n % 2 ^ width
-cut_shl m n width l =
-    let s : (128 - width) + width ≡ 128 = omega arith in
-    subst (λ (x : ℕ). m * 2 ^ n % 2 ^ x % 2 ^ width ≡ m * 2 ^ n % 2 ^ width) s (mod-mod-pow (m * 2 ^ n) (128 - width) width)
+pub cut_shl : (m n width register : ℕ) → width ≤ register → m * 2 ^ n % 2 ^ register % 2 ^ width ≡ m * 2 ^ n % 2 ^ width
+cut_shl m n width register l =
+    let s : (register - width) + width ≡ register = omega arith in
+    subst (λ (x : ℕ). m * 2 ^ n % 2 ^ x % 2 ^ width ≡ m * 2 ^ n % 2 ^ width) s (mod-mod-pow (m * 2 ^ n) (register - width) width)
 
 -- of j + k bits that move k places to the left, the j lowest stay
 pub shl-mod : (m j k : ℕ) → m * 2 ^ k % 2 ^ (j + k) ≡ m % 2 ^ j * 2 ^ k

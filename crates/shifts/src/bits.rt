@@ -7,6 +7,9 @@ ghost use Rattle.std.specs.Prelude.{◌≡◌, ◌-◌, ◌*◌, ◌/◌, ◌%�
 use crate::distances::Distance;
 
 /// A number of `WIDTH` bits, which it keeps however it moves. Two words side by side have 72.
+///
+/// The processor moves 64 bits at a time, so a number that fits them is moved as a `u64`: which of the two it is, is known
+/// of each width before the program runs.
 #[derive(Clone, Copy)]
 pub(crate) struct Bits<const WIDTH: u64> {
     pub(crate) number: u128,
@@ -39,7 +42,13 @@ impl<const WIDTH: u64> Bits<WIDTH> {
     fn shift_left(&self, n: u64) -> Self
         ensures { result.number ≡ self.now.number * 2 ^ n % 2 ^ WIDTH }
     {
-        Self::low(if n < WIDTH { self.number << n } else { 0 })
+        Self::low(if n >= WIDTH {
+            0
+        } else if WIDTH < 64 {
+            u128::from((self.number as u64) << n)
+        } else {
+            self.number << n
+        })
     }
 
     /// Past the width nothing is left here either.
@@ -47,7 +56,19 @@ impl<const WIDTH: u64> Bits<WIDTH> {
         ensures { result.number ≡ self.now.number / 2 ^ n }
     {
         Bits {
-            number: if n < WIDTH { self.number >> n } else { 0 },
+            number: if n < WIDTH { self.without_low(n) } else { 0 },
+        }
+    }
+
+    /// The bits that are left when so many are taken off at the right.
+    fn without_low(&self, n: u64) -> u128
+        requires { n ≤ WIDTH }
+        ensures { result ≡ self.now.number / 2 ^ n }
+    {
+        if WIDTH < 64 {
+            u128::from(self.number as u64 >> n)
+        } else {
+            self.number >> n
         }
     }
 
@@ -68,7 +89,7 @@ impl<const WIDTH: u64> Bits<WIDTH> {
         ensures { result.number ≡ exchanged (WIDTH - n) n self.now.number }
     {
         Bits {
-            number: self.shift_left(n).number + self.shift_right(WIDTH - n).number,
+            number: self.shift_left(n).number + self.without_low(WIDTH - n),
         }
     }
 
@@ -89,7 +110,7 @@ impl<const WIDTH: u64> Bits<WIDTH> {
         ensures { result ≡ overflows WIDTH minus self.now.number (Left n) }
     {
         if n <= WIDTH {
-            self.shift_right(WIDTH - n).number != signs(minus, n)
+            self.without_low(WIDTH - n) != Self::signs(minus, n)
         } else {
             // the last bit lost is a 0 that came in at the right
             minus || self.number != 0
@@ -101,17 +122,23 @@ impl<const WIDTH: u64> Bits<WIDTH> {
     fn move_right(&self, minus: bool, n: u64) -> Self
         ensures { result.number ≡ moved_beside WIDTH minus self.now.number (Right n) }
     {
-        let moved_in = signs(minus, WIDTH) - signs(minus, WIDTH.saturating_sub(n));
+        let moved_in = Self::signs(minus, WIDTH) - Self::signs(minus, WIDTH.saturating_sub(n));
         Bits {
             number: self.shift_right(n).number + moved_in,
         }
     }
-}
 
-/// As many bits as there are places, each equal to the sign.
-fn signs(minus: bool, places: u64) -> u128
-    requires { places ≤ 72 }
-    ensures { result ≡ (if minus then 2 ^ places - 1 else 0) }
-{
-    if minus { (1 << places) - 1 } else { 0 }
+    /// As many bits as there are places, each equal to the sign.
+    fn signs(minus: bool, places: u64) -> u128
+        requires { (places ≤ WIDTH) × (WIDTH ≤ 72) }
+        ensures { result ≡ (if minus then 2 ^ places - 1 else 0) }
+    {
+        if !minus {
+            0
+        } else if WIDTH < 64 {
+            u128::from((1u64 << places) - 1)
+        } else {
+            (1 << places) - 1
+        }
+    }
 }

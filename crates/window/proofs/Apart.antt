@@ -1,9 +1,7 @@
 -- Windows that lie apart: where all before and after one is as it was, so is the other.
 use Rattle.std.proofs.Common.{◌≡◌, ℕ, ◌+◌, ◌-◌, ◌≤◌, List, take, drop, sym, ap, ◌∙◌, ⊎_elim, arith}
 use Rattle.std.proofs.lemmas.List.{take-take, drop-drop, drop-take}
-use Rattle.window.specs.Window.{Unseen}
-use Rattle.window.specs.Windows.{window_of, words_before, words_after}
-use Rattle.window.specs.declared.span.Span.{Span}
+use Rattle.window.specs.Windows.{window_of, words_before, words_after, Apart}
 
 module _ (f n g m : ℕ) where
   in-before : g + m ≤ f → (ws : List ℕ) → window_of g m ws ≡ window_of g m (words_before f ws)
@@ -18,9 +16,9 @@ module _ (f n g m : ℕ) where
       let e : f + n + (g - (f + n)) ≡ g = omega arith in
       sym (ap (take m) (drop-drop (g - (f + n)) (f + n) ws ∙ ap (λ k. drop k ws) e))
 
-pub unseen : (s : Span) (ws vs : List ℕ) → words_before s.from vs ≡ words_before s.from ws → words_after s.from s.count vs ≡ words_after s.from s.count ws → Unseen s ws vs
-unseen s ws vs low high g m apart =
+pub unseen : (f n : ℕ) (ws vs : List ℕ) → words_before f vs ≡ words_before f ws → words_after f n vs ≡ words_after f n ws → (g m : ℕ) → Apart f n g m → window_of g m vs ≡ window_of g m ws
+unseen f n ws vs low high g m apart =
     ⊎_elim
-    (λ (l : s.from + s.count ≤ g). in_after s.from s.count g m l vs ∙ ap (window_of (g - (s.from + s.count)) m) high ∙ sym (in_after s.from s.count g m l ws))
-    (λ (l : g + m ≤ s.from). in-before s.from s.count g m l vs ∙ ap (window_of g m) low ∙ sym (in-before s.from s.count g m l ws))
+    (λ (l : f + n ≤ g). in_after f n g m l vs ∙ ap (window_of (g - (f + n)) m) high ∙ sym (in_after f n g m l ws))
+    (λ (l : g + m ≤ f). in-before f n g m l vs ∙ ap (window_of g m) low ∙ sym (in-before f n g m l ws))
     apart

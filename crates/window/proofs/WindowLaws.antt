@@ -37,7 +37,7 @@ module _ (s : Span) (ws vs : List ℕ) (a w : ℕ) (r : Result (Unit {0}) Refusa
       cc
 
   pub unseen-window : Unseen s ws vs
-  unseen-window = unseen s ws vs (before-window s.from s.count ws a l w vs r did) (after-window s.from s.count ws a l w vs r did)
+  unseen-window = unseen s.from s.count ws vs (before-window s.from s.count ws a l w vs r did) (after-window s.from s.count ws a l w vs r did)
 
 -- a core has no address from 262,144 on, so a window that is cut there sees what the whole one would
 pub window_cut : (f n : ℕ) (ws : List ℕ) → length ws ≤ 262144 → window_of (min f 262144) (min n (262144 - min f 262144)) ws ≡ window_of f n ws

@@ -1,8 +1,10 @@
 -- A window on a list of words: what it sees, and what lies before and after it.
 use Rattle.std.specs.Prelude.{◌≡◌, ℕ, ◌+◌, ◌-◌, ◌<◌, ◌≤◌, min, ◌⊎◌, List, length, take, drop, slice_index, slice_set}
-use Rattle.std.proofs.lemmas.List.{length-take, length-drop, get_or-take, get_or-drop, drop-set-add, take-set-le, drop-set-lt}
+use Rattle.std.proofs.lemmas.List.{length-take, length-drop, get_or-take, get_or-drop, get_or_past, drop-set-add, take-set-le, drop-set-lt}
+use Rattle.std.proofs.lemmas.Bool.{cases_lt}
+use Rattle.words.specs.Word.{Narrow}
 use Rattle.std.proofs.Math.Seq.{take-set-lt}
-use Rattle.std.proofs.Common.{◌∙◌, arith}
+use Rattle.std.proofs.Common.{⊎_elim, ◌∙◌, arith}
 use Rattle.std.proofs.Math.Path.{ap}
 
 -- the words from f on, n of them as far as the list reaches
@@ -39,3 +41,13 @@ module _ (f n : ℕ) (ws : List ℕ) where
   pub after-set : (a w : ℕ) → a < n → words_after f n (slice_set ws (f + a) w) ≡ words_after f n ws
   unfolding words_after
   after-set a w l = drop-set-lt (f + n) ws (f + a) w (omega arith)
+
+  pub short-window : length ws ≤ 262144 → length (window_of f n ws) ≤ 262144
+  short-window h = omega (arith, length-window)
+
+  pub narrow-window : Narrow ws → Narrow (window_of f n ws)
+  narrow-window h a =
+      ⊎_elim
+      (λ (l : a < n). omega (arith, get_d_window a l, h (f + a)))
+      (λ (l : n ≤ a). omega (arith, get_or_past (window_of f n ws) a 0 (omega (arith, length-window))))
+      (cases_lt a n)

@@ -2,12 +2,13 @@
 
 ghost use Rattle.std.specs.Prelude.{◌≡◌, ℕ, List};
 ghost use Rattle.memory.specs.Access.{Writes};
-ghost use Rattle.window.specs.Window.{window_words, window_rest, Unseen, short-window, narrow-window};
+ghost use Rattle.window.specs.Window.{window_words, window_rest, Unseen};
+ghost use Rattle.window.specs.Windows.{short-window, narrow-window};
 ghost use Rattle.std.specs.Borrow.{GName};
 
 use crate::span::Span;
 use memory::Core;
-use words::Refusal;
+use words::{Refusal, check_word};
 
 /// The words of a lent core that lie in a span. What of the span is past the core's end is not there.
 #[derive(Drop)]
@@ -35,9 +36,9 @@ impl<'a, C: Core> Core for Window<'a, C> {
 
     ghost rest = { λ c. window_rest c.core.ghost_name c.span (C.Core.words c.core.now) (C.Core.rest c.core.now) };
 
-    ghost short = { λ c. short-window c.span (C.Core.words c.core.now) (C.Core.short c.core.now) };
+    ghost short = { λ c. short-window c.span.from c.span.count (C.Core.words c.core.now) (C.Core.short c.core.now) };
 
-    ghost narrow = { λ c. narrow-window c.span (C.Core.words c.core.now) (C.Core.narrow c.core.now) };
+    ghost narrow = { λ c. narrow-window c.span.from c.span.count (C.Core.words c.core.now) (C.Core.narrow c.core.now) };
 
     fn len(&self) -> u64 {
         self.core
@@ -62,7 +63,11 @@ impl<'a, C: Core> Core for Window<'a, C> {
             ≡ window_rest self.old.core.ghost_name self.old.span (C.Core.words self.old.core.now) (C.Core.rest self.old.core.now) }
         ensures unseen { Unseen self.old.span (C.Core.words self.old.core.now) (C.Core.words self.new.core.now) }
     {
-        self.check_write(a, w)?;
+        // Not `check_write`, whose test of the address asks every core below for its length, at each window on a window.
+        check_word(w)?;
+        if a >= self.span.count {
+            return Err(Refusal::AddressOutsideCore);
+        }
         self.core.write(self.span.from + a, w)
     }
 }

@@ -1,11 +1,18 @@
 -- A word is a whole number below 2^36.
-use Rattle.std.specs.Prelude.{◌≡◌, ℕ, ◌^◌, ◌<◌, ◌≤◌, Bool, true, ltb, List, length, nat_lt, slice_index, refl}
+use Rattle.std.specs.Prelude.{◌≡◌, ℕ, ◌^◌, ◌<◌, ◌≤◌, Bool, true, ltb, List, length, nat_lt, slice_index, refl, Ok, Err, Result}
+use Rattle.words.specs.Refusals.{number_of}
+use Rattle.words.specs.declared.refusal.Refusal.{Refusal}
 use Rattle.std.specs.List.{list_all}
 use Rattle.std.proofs.ByRecursion.{All-get_or, Decides-by_and}
 use Rattle.std.proofs.lemmas.List.{get_or_past}
 use Rattle.std.proofs.lemmas.Bool.{cases_lt}
 use Rattle.std.proofs.lemmas.Bool.Decides.{Decides-ltb}
 use Rattle.std.proofs.Common.{⊎_elim, arith}
+
+-- the test of a number: refusal 10 exactly where it is no word
+abbrev pub ChecksWord : ℕ → Result (Unit {0}) Refusal → Type 0
+ChecksWord w (Ok u) = w < 2 ^ 36
+ChecksWord w (Err e) = (2 ^ 36 ≤ w) × (number_of e ≡ 10)
 
 -- whether every number is one
 abbrev pub are_words : List ℕ → Bool

@@ -6,4 +6,4 @@ mod refusal;
 mod word;
 
 pub use refusal::Refusal;
-pub use word::{HALF_LIMIT, SIGN_BIT, WORD_LIMIT, all_words, complement, is_negative};
+pub use word::{HALF_LIMIT, SIGN_BIT, WORD_LIMIT, all_words, check_word, complement, is_negative};

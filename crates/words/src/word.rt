@@ -1,7 +1,9 @@
 ghost use Rattle.words.specs.Bits.{complement};
 ghost use Rattle.words.specs.Signed.{is_negative};
-ghost use Rattle.words.specs.Word.{are_words};
+ghost use Rattle.words.specs.Word.{are_words, ChecksWord};
 ghost use Rattle.std.specs.Prelude.{◌≡◌, ◌^◌, ◌<◌};
+
+use crate::refusal::Refusal;
 
 /// One more than the greatest word: a word is a whole number below this.
 ///
@@ -20,6 +22,16 @@ pub fn all_words(numbers: &[u64]) -> bool
     ensures { result ≡ are_words numbers.now }
 {
     numbers.iter().all(|&n| n < WORD_LIMIT)
+}
+
+/// Refuses a number that is no word.
+pub fn check_word(w: u64) -> Result<(), Refusal>
+    ensures { ChecksWord w result }
+{
+    if w >= WORD_LIMIT {
+        return Err(Refusal::NotAWord);
+    }
+    Ok(())
 }
 
 /// The other of each of the low 36 bits.
