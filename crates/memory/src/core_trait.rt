@@ -55,8 +55,8 @@ pub trait Core {
         Ok(())
     }
 
-    /// Refuses what no core writes: a number that is no word, and then any word at an address that is not there. The
-    /// `write` of a core begins with it, unless what the core is made of tests the address.
+    /// Refuses what no core writes: a number that is no word, and then any word at an address that is not there. A core's
+    /// `write` begins with it, but for one that leaves the test of the address to a core below.
     fn check_write(&self, a: u64, w: u64) -> Result<(), Refusal>
         ensures { ChecksWrite (words self.now) a w result }
     {
