@@ -34,7 +34,7 @@ pub fn read_deck(heap: Global, text: &[u8]) -> Result<Vec<u64>, DeckError>
 fn line_at_end(text: &[u8]) -> u64
     ensures { result ≡ min (newlines text.now + 1) (2 ^ 64 - 1) }
 {
-    // A sum and no `filter` with `count`: the compiler then looks at many characters at a time.
+    // A sum and no `filter` with `count`: the compiler then looks at several characters at a time.
     let mut ended = 0u64;
     for &c in text {
         ended += u64::from(c == b'\n');
